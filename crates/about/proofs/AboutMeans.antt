@@ -1,11 +1,10 @@
 -- What is promised of `kd_torrent_info` and `kd_torrent_name`: each number exactly when; the part of `info` is its encoded value, whose SHA-256 is
 -- the info hash; the part of `name` is the string's content.
 -- Assumes nothing.
-use Rattle.std.specs.Prelude.{◌≡◌, ◌↔◌, ℕ, ◌+◌, ◌-◌}
+use Rattle.bencode.specs.Scalar.{part}
+use Rattle.std.specs.Prelude.{◌≡◌, ◌↔◌, ℕ, ◌+◌, ◌-◌, List, ◌∷◌, ◌++◌, Option, Some, None}
 use Rattle.std.proofs.Math.Path.{refl, ap}
-use Rattle.std.proofs.Common.{sym, ◌∙◌, subst, inl, inr}
-use mathlib.Core.List.{List, ◌∷◌, ◌++◌}
-use native.Mathlib.Omega.{arith}
+use Rattle.std.proofs.Common.{sym, ◌∙◌, subst, inl, inr, arith}
 use Rattle.std.proofs.Math.Decide.{ℕ_discrete}
 use Rattle.std.proofs.Math.ListN.{length, drop, length-append}
 use Rattle.limits.specs.Limits.{max_levels}
@@ -18,24 +17,19 @@ use Rattle.bencode.specs.Parts.{find_key, FoundIs, Lookup, absent, present, look
 use Rattle.bencode.specs.PartsLaws.{part_front, string_of, content_is, find_is}
 use Rattle.bencode.specs.CompleteLaws.{content_start}
 use Rattle.bencode.specs.DepthLaws.{more_levels}
-use Rattle.bencode.specs.declared.scalar.ByteString.{ByteString}
-use Rattle.bencode.specs.declared.scalar.ByteString.TheVariants.{Content, NoString}
-use Rattle.bencode.specs.declared.parts.Found.{Found}
-use Rattle.bencode.specs.declared.parts.Found.TheVariants.{Part, Missing}
+use Rattle.bencode.specs.declared.part.Part.{Part}
 use Rattle.meaning.specs.Torrent.{info_of}
 use Rattle.writer_meaning.specs.Content.{key_name}
-use Rattle.metainfo.specs.Metainfo.{bytes_in}
-use Rattle.metainfo.specs.declared.Keys.{Keys}
+use Rattle.metainfo.specs.Metainfo.{Keys, bytes_in}
 use Rattle.layers.specs.Layers.{string_in}
 use Rattle.joined.specs.FileLaws.{string_there}
 use Rattle.halves.specs.V1Keys.{key_pieces}
-use Rattle.torrent.specs.Torrent.{v2_checked_of, checked_of, read_of, no_part_read}
+use Rattle.torrent.specs.Torrent.{PartRead, v2_checked_of, checked_of, read_of, no_part_read}
 use Rattle.torrent.specs.Answers.{Says, PartIs}
 use Rattle.torrent.specs.CheckLaws.{checked_whole}
 use Rattle.torrent.specs.NumberMeans.{read_number_lem, read_encodes}
 use Rattle.torrent.specs.ReadMeans.{number_zero, same_keys, at_values, torrent_is, info_valid}
 use Rattle.torrent.specs.HalvesMeans.{as_before}
-use Rattle.torrent.specs.declared.read.PartRead.{PartRead}
 use Rattle.calls.specs.Calls.{PathOutcome, done as path_done, bad_torrent as path_refused, no_element}
 use Rattle.calls.specs.CallsLaws.{checked_ranged, of_torrent, not_zero}
 use Rattle.calls.specs.EachNumber.{read_exactly}
@@ -57,7 +51,7 @@ NameIs s r (present (list vs)) = r ≡ no_part_read no_such_part
 NameIs s r (present (dictionary es)) = r ≡ no_part_read no_such_part
 
 -- a string that stands from a to k
-string_part : (s : List ℕ) (a k : ℕ) (b : List ℕ) → cut s a (k - a) ≡ encode (string b) → PartIs s b (content_part (Content (content_start a b) (a + length (encode_string b))))
+string_part : (s : List ℕ) (a k : ℕ) (b : List ℕ) → cut s a (k - a) ≡ encode (string b) → PartIs s b (content_part (part (content_start a b) (a + length (encode_string b))))
 string_part s a k b e =
     let front : encode (string b) ≡ encode_string b = unfold encode in refl in
     let there : drop a s ≡ encode_string b ++ drop (k - a) (drop a s) = part_front s a k (string b) e ∙ ap (λ (z : List ℕ). z ++ drop (k - a) (drop a s)) front in
@@ -65,14 +59,14 @@ string_part s a k b e =
     let size : a + length (encode_string b) - content_start a b ≡ length b = omega arith in
     record { number = refl; size = size; bytes = content_is s b (drop (k - a) (drop a s)) a there }
 
-found_name : (s : List ℕ) (w : Found) (x : Lookup) → FoundIs s w x → NameIs s (content_part (string_in s w)) x
-found_name s Missing absent f = refl
-found_name s Missing (present v) f = absurd f
-found_name s (Part a k) absent f = absurd f
-found_name s (Part a k) (present v) f = subst (λ (r : ByteString). NameIs s (content_part r) (present v)) (sym (string_there s a k v f)) (by v f)
+found_name : (s : List ℕ) (w : Option Part) (x : Lookup) → FoundIs s w x → NameIs s (content_part (string_in s w)) x
+found_name s None absent f = refl
+found_name s None (present v) f = absurd f
+found_name s (Some w) absent f = absurd f
+found_name s (Some w) (present v) f = subst (λ (r : Option Part). NameIs s (content_part r) (present v)) (sym (string_there s w.start w.end v f)) (by v f)
   where
-    by : (v : Value) → cut s a (k - a) ≡ encode v → NameIs s (content_part (string_of a v)) (present v)
-    by (string b) e = string_part s a k b e
+    by : (v : Value) → cut s w.start (w.end - w.start) ≡ encode v → NameIs s (content_part (string_of w.start v)) (present v)
+    by (string b) e = string_part s w.start w.end b e
     by (integer minus n) e = refl
     by (list vs) e = refl
     by (dictionary es) e = refl
@@ -147,7 +141,7 @@ pub info_exactly : (s : List ℕ) (n : ℕ) → ((info_read s).number ≡ n) ↔
 info_exactly s n = let w = read_exactly s n in (λ e. w.0 (sym (info_number s) ∙ e), λ x. info_number s ∙ w.1 x)
 
 -- the name of a torrent that is not refused
-by_name : (s : List ℕ) → (checked_of s).keys.number ≡ 0 → (w : ByteString) → name_from s (checked_of s).keys.info.start ≡ w → name_read s ≡ content_part w
+by_name : (s : List ℕ) → (checked_of s).keys.number ≡ 0 → (w : Option Part) → name_from s (checked_of s).keys.info.start ≡ w → name_read s ≡ content_part w
 by_name s z w e = sym (name_done s (checked_of s) refl z (name_from s (checked_of s).keys.info.start) w refl e)
 
 -- kd_torrent_name: 29 after all of 19 to 28 and 31, exactly where `info` has no string `name`,
@@ -175,9 +169,9 @@ name_number s h =
       | no g ↦ sym (ap (λ (r : PartRead). r.number) (name_refused s (checked_of s) refl g)) ∙ sym (read_number_lem s)
     ]
   where
-    by : (checked_of s).keys.number ≡ 0 → (w : ByteString) → name_from s (checked_of s).keys.info.start ≡ w → (name_read s).number ≡ (read_of s).number
-    by z NoString e = absurd (h (ap (λ (r : PartRead). r.number) (by_name s z NoString e)))
-    by z (Content a b) e = ap (λ (r : PartRead). r.number) (by_name s z (Content a b) e) ∙ sym (read_number_lem s ∙ z)
+    by : (checked_of s).keys.number ≡ 0 → (w : Option Part) → name_from s (checked_of s).keys.info.start ≡ w → (name_read s).number ≡ (read_of s).number
+    by z None e = absurd (h (ap (λ (r : PartRead). r.number) (by_name s z None e)))
+    by z (Some w) e = ap (λ (r : PartRead). r.number) (by_name s z (Some w) e) ∙ sym (read_number_lem s ∙ z)
 
 -- ---- which answers there are: done; or the torrent's number beside zeros; or 29 beside zeros
 
@@ -195,9 +189,9 @@ name_outcome s =
       | inr p ↦ rw (sym (name_refused s (checked_of s) refl (not_zero (checked_of s).keys.number p))) (path_refused (checked_of s).keys.number p)
     ]
   where
-    by : (checked_of s).keys.number ≡ 0 → (w : ByteString) → name_from s (checked_of s).keys.info.start ≡ w → PathOutcome (name_read s)
-    by z NoString e = rw (by_name s z NoString e) no_element
-    by z (Content a b) e = path_done (name_read s) (ap (λ (r : PartRead). r.number) (by_name s z (Content a b) e))
+    by : (checked_of s).keys.number ≡ 0 → (w : Option Part) → name_from s (checked_of s).keys.info.start ≡ w → PathOutcome (name_read s)
+    by z None e = rw (by_name s z None e) no_element
+    by z (Some w) e = path_done (name_read s) (ap (λ (r : PartRead). r.number) (by_name s z (Some w) e))
 
 -- ---- 02, request 12: of a pure v2 torrent both are as by its v2 half alone
 

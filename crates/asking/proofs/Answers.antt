@@ -1,18 +1,12 @@
 -- What each function asks for and answers, from what its callees ensure and the tests it took.
 -- Assumes nothing.
-use mathlib.Core.Path.{◌≡◌, ap, ap₂, sym, ◌∙◌}
-use mathlib.Core.Bool.{Bool, true, false}
-use mathlib.Core.List.{List, ◌∷◌, ◌++◌, append_assoc, append-nil}
-use Prim.Native.Nat.{ℕ, ◌+◌, ◌-◌, ◌*◌, ◌/◌, ◌%◌, ◌^◌, ◌≤◌, ◌<◌}
-use native.Mathlib.Omega.{arith}
-use lib.ListN.{length, set, replicate, length-append}
-use lib.Pow.{pow_mono}
-use borrow.Author.Tests.{eq-eqb, ne_eqb, lt-ltb, le-ltb}
+use Rattle.std.specs.Prelude.{◌≡◌, Bool, true, false, List, ◌∷◌, ◌++◌, ℕ, ◌+◌, ◌-◌, ◌*◌, ◌/◌, ◌^◌, ◌≤◌, ◌<◌, length, set, replicate}
+use Rattle.std.proofs.Common.{ap, ap₂, sym, ◌∙◌, append_assoc, append-nil, arith, length-append, pow_mono, eq-eqb, ne_eqb, lt-ltb, le-ltb}
 use Rattle.limits.specs.Limits.{tallest_tree}
 use Rattle.octets.specs.Octets.{be, pasted}
 use Rattle.octets.specs.OctetsLaws.{pasted_append}
 use Rattle.tree.specs.Geometry.{height, log2, node_number, covering, piece_layer, has_layer}
-use Rattle.tree.proofs.GeometryLaws.{node_number_range, shifted_one}
+use Rattle.tree.proofs.GeometryLaws.{node_number_range}
 use Rattle.cells.specs.Cells.{Room}
 use Rattle.store.specs.Store.{usable, file_length, piece_length, facts_root, blocks_of, height_of, positions}
 use Rattle.store.specs.StoreLaws.{usable_facts, facts_usable, positions_some}
@@ -48,14 +42,6 @@ layer_pieces s l p q n r a b d e f g =
     rw (ne_eqb l 0 a, eq-eqb l (piece_layer (piece_length s)) (e ∙ d ∙ ap piece_layer b)) (g ∙ ap₂ has_layer f b)
 
 -- ---- a run
-
-pub length_whole : (h l : ℕ) → l ≤ h → h ≤ tallest_tree → 1 * 2 ^ (h - l) % 18446744073709551616 < 8192 → 1 * 2 ^ (h - l) % 18446744073709551616 ≡ run_length h l
-unfolding run_length
-length_whole h l a b c = omega (arith, shifted_one (h - l) (omega arith))
-
-pub length_limit : (h l : ℕ) → l ≤ h → h ≤ tallest_tree → 8192 ≤ 1 * 2 ^ (h - l) % 18446744073709551616 → ◌≡◌ {A = ℕ} 8192 (run_length h l)
-unfolding run_length
-length_limit h l a b c = omega (arith, shifted_one (h - l) (omega arith))
 
 -- run j of layer l, of length len = 2^k: its top is a position of the tree, and each number of its header a small one
 module _ (s : List ℕ) (h l j : ℕ) (f : usable s ≡ true) (e : h ≡ height_of s) (I : InLayer h l j) (len k : ℕ) (a : len ≡ run_length h l) (b : k ≡ log2 len) where

@@ -1,15 +1,8 @@
 -- What the functions of the picking ask for and answer.
 -- Assumes nothing.
 use Rattle.std.proofs.Math.Decide.{dec_le}
-use Rattle.std.proofs.Common.{add-mul, one-mul, mul_comm, mul-le-mul_right, pow-add, pow_mono, pow_pos}
-use mathlib.Core.Path.{◌≡◌, ap, sym, ◌∙◌}
-use mathlib.Core.Bool.{Bool, true, false}
-use mathlib.Core.List.{List}
-use Prim.Native.Nat.{ℕ, ◌+◌, ◌-◌, ◌*◌, ◌^◌, ◌≤◌, ◌<◌}
-use native.Mathlib.Omega.{arith}
-use lib.ListN.{length, get_or}
-use lib.Dec.{ltb}
-use borrow.Author.Tests.{eq-eqb, ne_eqb, lt-ltb}
+use Rattle.std.proofs.Common.{add-mul, one-mul, mul_comm, mul-le-mul_right, pow-add, pow_mono, pow_pos, ap, sym, ◌∙◌, arith, eq-eqb, ne_eqb, lt-ltb}
+use Rattle.std.specs.Prelude.{◌≡◌, Bool, true, false, List, ℕ, ◌+◌, ◌-◌, ◌*◌, ◌^◌, ◌≤◌, ◌<◌, length, get_or, ltb}
 use Rattle.limits.specs.Limits.{tallest_tree}
 use Rattle.numbers.specs.Numbers.{wrong_size, unusable}
 use Rattle.tree.specs.Geometry.{piece_count, piece_size, piece_layer, covering}

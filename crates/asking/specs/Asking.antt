@@ -1,10 +1,12 @@
 -- 02, request 11: the next request for a layer: the base run that contains the lowest wanted position not held, its length the limit or
 -- the whole layer if that is smaller, with the fewest proof layers whose anchor is held.
 -- Assumes nothing.
-use Rattle.std.specs.Prelude.{List, ◌∷◌, ◌++◌, Bool, cond, ◌&&◌, ◌||◌, ℕ, zero, suc, ◌+◌, ◌-◌, ◌*◌, ◌/◌, ◌^◌, min, replicate, eqb, ltb}
+use Rattle.std.specs.Prelude.{List, Option, Some, None, Result, Ok, Err, ◌∷◌, ◌++◌, Bool, cond, ◌&&◌, ◌||◌, ℕ, zero, suc, ◌+◌, ◌-◌, ◌*◌, ◌/◌, ◌^◌, min, replicate, eqb, ltb}
 use Rattle.limits.specs.Limits.{longest_run}
 use Rattle.octets.specs.Octets.{be}
 use Rattle.numbers.specs.Numbers.{rule_broken, no_anchor, unusable}
+use Rattle.numbers.specs.Refusals.{number_of}
+use Rattle.numbers.specs.declared.Refused.{Refused}
 use Rattle.tree.specs.Geometry.{log2, covering, node_number, piece_layer, has_layer}
 use Rattle.cells.specs.Cells.{held_at}
 use Rattle.store.specs.Store.{usable, file_length, piece_length, facts_root, blocks_of, height_of}
@@ -85,6 +87,12 @@ no_request n = record { number = n; asks = 0; base = 0; index = 0; len = 0; proo
 -- the answer with the request for a header
 abbrev pub request_for : List ℕ → Header → Request
 request_for root x = record { number = 0; asks = 1; base = x.base; index = x.index; len = x.len; proof = x.proof; message = request_bytes root x }
+
+-- what a number, or a request or none, gives C
+abbrev pub request_of : Result (Option Request) Refused → Request
+request_of (Ok (Some request)) = request
+request_of (Ok None) = no_request 0
+request_of (Err why) = no_request (number_of why)
 
 unfoldable pub next_answer : List ℕ → ℕ → Request
 next_answer s l =

@@ -1,7 +1,9 @@
 -- 02, request 11: the piece to fetch: the smallest count above zero among pieces not on disk, the lowest number on a tie.
 -- Assumes nothing.
-use Rattle.std.specs.Prelude.{List, Bool, cond, not, ◌&&◌, ◌||◌, ℕ, zero, suc, length, get_or, eqb, ltb}
+use Rattle.std.specs.Prelude.{List, Option, Some, None, Result, Ok, Err, Bool, cond, not, ◌&&◌, ◌||◌, ℕ, zero, suc, length, get_or, eqb, ltb}
 use Rattle.numbers.specs.Numbers.{wrong_size, unusable}
+use Rattle.numbers.specs.Refusals.{number_of}
+use Rattle.numbers.specs.declared.Refused.{Refused}
 use Rattle.tree.specs.Geometry.{piece_count}
 use Rattle.store.specs.Store.{usable, file_length, piece_length}
 use Rattle.marks.specs.Marks.{piece_marked}
@@ -25,6 +27,15 @@ no_piece n = record { number = n; found = 0; piece = 0 }
 
 abbrev pub this_piece : ℕ → Choice
 this_piece i = record { number = 0; found = 1; piece = i }
+
+-- the choice that a piece or none is, and what C gets of it or of a refusal
+abbrev pub picked : Option ℕ → Choice
+picked (Some i) = this_piece i
+picked None = no_piece 0
+
+abbrev pub choice_of : Result (Option ℕ) Refused → Choice
+choice_of (Ok best) = picked best
+choice_of (Err why) = no_piece (number_of why)
 
 -- the choice after piece i, where `best` was the one before it
 unfoldable pub chosen : List ℕ → List ℕ → ℕ → Choice → Choice

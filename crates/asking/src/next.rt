@@ -1,6 +1,7 @@
 // The next request for a layer: the base run with the lowest wanted position not held, and the fewest proof layers whose anchor is held.
 ghost use Rattle.std.specs.Prelude.{◌≡◌, true, ◌+◌, ◌≤◌};
 ghost use Rattle.limits.specs.Limits.{tallest_tree};
+ghost use Rattle.numbers.specs.Refusals.{code_of};
 ghost use Rattle.cells.specs.Cells.{Room};
 ghost use Rattle.store.specs.Store.{usable, height_of};
 ghost use Rattle.header.specs.Header.{Small};
@@ -9,11 +10,12 @@ ghost use Rattle.asking.specs.Asks.{InLayer};
 
 use cells::held;
 use header::{Header, REQUEST};
+use numbers::Refused;
 use octets::{put_hash, put_number};
 use store::{blocks_of, facts_root, file_length, height_of, is_usable, piece_length_of};
 use tree::geometry::{covering, has_layer, log2, node_number, piece_layer};
 
-// kd_request: a number; beside 0, `asks` is 1 with the request's four numbers and its 49 bytes, or 0: nothing to ask.
+// kd_request, a struct of the C interface: a number; beside 0, `asks` is 1 with the request's four numbers and its 49 bytes, or 0: nothing to ask.
 #[repr(C)]
 #[derive(Clone, Copy)]
 pub struct Request {
@@ -31,13 +33,11 @@ fn held_front(store: &[u8], node: usize, count: usize) -> usize
     requires { Room (node + count) store.now }
     ensures { result ≡ S.held_front store.now node count }
 {
-    let mut i = 0;
-    while i < count {
+    for i in 0..count {
         let there = held(store, node + i);
         if !there {
             return i;
         }
-        i += 1;
     }
     count
 }
@@ -48,14 +48,12 @@ fn uncles_needed(store: &[u8], top: usize, node: usize) -> usize
     ensures { result ≡ S.uncles_needed store.now top node }
 {
     let mut x = node;
-    let mut u = 0;
-    while u < top {
+    for u in 0..top {
         let there = held(store, x);
         if there {
             return u;
         }
         x = x / 2;
-        u += 1;
     }
     top
 }
@@ -77,23 +75,20 @@ fn layer_asked(store: &[u8], layer: usize) -> bool
     has_layer(size, plen)
 }
 
-// 9, 3, 6 or 0.
-fn next_number(store: &[u8], layer: usize) -> u32
-    ensures { result ≡ S.next_number store.now layer }
+// Why a layer is not asked for: 9, 3 or 6.
+fn next_number(store: &[u8], layer: usize) -> Result<(), Refused>
+    ensures { code_of result ≡ S.next_number store.now layer }
 {
-    let ok = is_usable(store);
-    if !ok {
-        return numbers::UNUSABLE;
+    if !is_usable(store) {
+        return Err(Refused::Unusable);
     }
-    let right = layer_asked(store, layer);
-    if !right {
-        return numbers::RULE_BROKEN;
+    if !layer_asked(store, layer) {
+        return Err(Refused::RuleBroken);
     }
-    let root = held(store, 1);
-    if root {
-        return numbers::DONE;
+    if !held(store, 1) {
+        return Err(Refused::NoAnchor);
     }
-    numbers::NO_ANCHOR
+    Ok(())
 }
 
 // The length of a base run: the limit, or the whole layer.
@@ -102,12 +97,8 @@ fn run_length(height: usize, layer: usize) -> usize
     ensures { result ≡ S.run_length height layer }
 {
     let d = height - layer;
-    let whole = 1 << d;
-    if whole < limits::LONGEST_RUN {
-        whole
-    } else {
-        limits::LONGEST_RUN
-    }
+    let whole: usize = 1 << d;
+    whole.min(limits::LONGEST_RUN)
 }
 
 // The fewest proof layers that give u uncles beside a run of 2^k hashes.
@@ -160,11 +151,10 @@ fn request_bytes(root: [u8; 32], header: Header) -> [u8; 49]
     m
 }
 
-// Nothing to ask, or a refusal.
+// The C interface's request that asks nothing: zeros beside the number.
 fn no_request(number: u32) -> Request
     ensures { result ≡ S.no_request number }
 {
-    let message = [0u8; 49];
     Request {
         number,
         asks: 0,
@@ -172,7 +162,19 @@ fn no_request(number: u32) -> Request
         index: 0,
         len: 0,
         proof: 0,
-        message,
+        message: [0u8; 49],
+    }
+}
+
+impl From<Result<Option<Request>, Refused>> for Request {
+    ghost from_gives = { λ outcome request. request ≡ S.request_of outcome };
+
+    fn from(outcome: Result<Option<Request>, Refused>) -> Request {
+        match outcome {
+            Ok(Some(request)) => request,
+            Ok(None) => no_request(0),
+            Err(why) => no_request(u32::from(why)),
+        }
     }
 }
 
@@ -197,25 +199,29 @@ fn request_for(root: [u8; 32], header: Header) -> Request
     }
 }
 
-// The next request for a layer: 9, 3, 6, or 0 with the request, or with nothing to ask.
-pub fn next_request(store: &[u8], layer: usize) -> Request
-    ensures { result ≡ S.next_answer store.now layer }
+// The request, or none where all that is wanted of the layer is held.
+fn wanted_request(store: &[u8], layer: usize) -> Result<Option<Request>, Refused>
+    ensures { S.request_of result ≡ S.next_answer store.now layer }
 {
-    let number = next_number(store, layer);
-    if number != numbers::DONE {
-        return no_request(number);
-    }
+    next_number(store, layer)?;
     let h = height_of(store);
     let b = blocks_of(store);
     let c = covering(b, layer);
     let first = node_number(h, layer, 0);
     let i = held_front(store, first, c);
-    if i < c {
-        let len = run_length(h, layer);
-        let j = i / len;
-        let x = run_header(store, h, layer, j);
-        let root = facts_root(store);
-        return request_for(root, x);
+    if i >= c {
+        return Ok(None);
     }
-    no_request(numbers::DONE)
+    let len = run_length(h, layer);
+    let j = i / len;
+    let x = run_header(store, h, layer, j);
+    let root = facts_root(store);
+    Ok(Some(request_for(root, x)))
+}
+
+// The next request for a layer: 9, 3, 6, or 0 with the request, or with nothing to ask.
+pub fn next_request(store: &[u8], layer: usize) -> Request
+    ensures { result ≡ S.next_answer store.now layer }
+{
+    Request::from(wanted_request(store, layer))
 }

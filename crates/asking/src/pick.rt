@@ -7,10 +7,11 @@ ghost use Rattle.asking.specs.Picking as P;
 ghost use Rattle.asking.specs.Asks.{DiskOf};
 
 use marks::{all_marked, each_piece, marks_start};
+use numbers::Refused;
 use store::{blocks_of, file_length, is_usable, piece_length_of};
 use tree::geometry::{piece_count, piece_size};
 
-// kd_choice: a number; beside 0, `found` is 1 with the piece to fetch, or 0: nothing to fetch.
+// kd_choice, a struct of the C interface: a number; beside 0, `found` is 1 with the piece to fetch, or 0: nothing to fetch.
 #[repr(C)]
 #[derive(Clone, Copy)]
 pub struct Choice {
@@ -46,31 +47,34 @@ fn on_disk(store: &[u8], disk: Disk, piece: usize) -> bool
     requires { (usable store.now ≡ true) × DiskOf store.now disk × (piece < piece_count (file_length store.now) (piece_length store.now)) }
     ensures { result ≡ piece_marked store.now piece }
 {
-    let start = disk.start;
     let each = disk.each;
     let blocks = disk.blocks;
     let first = each * piece;
     let n = piece_size(blocks, each, piece);
-    all_marked(store, start, first, n)
+    all_marked(store, disk.start, first, n)
 }
 
-// Whether a piece with that count goes before the choice made so far.
-fn goes_before(counts: &[u32], count: u32, best: Choice) -> bool
-    requires { best.piece < length counts.now }
-    ensures { result ≡ P.before counts.now count best }
+// Whether a piece with that count goes before the best so far.
+fn goes_before(counts: &[u32], count: u32, best: Option<usize>) -> bool
+    requires { (P.picked best).piece < length counts.now }
+    ensures { result ≡ P.before counts.now count (P.picked best) }
 {
-    let found = best.found;
-    let piece = best.piece;
-    if found == 0 {
-        return true;
+    match best {
+        Some(other) => count < counts[other],
+        None => true,
     }
-    count < counts[piece as usize]
 }
 
-// The choice after one more piece.
-fn with_piece(store: &[u8], counts: &[u32], disk: Disk, best: Choice, piece: usize) -> Choice
-    requires { (usable store.now ≡ true) × DiskOf store.now disk × (length counts.now ≡ piece_count (file_length store.now) (piece_length store.now)) × (piece < length counts.now) × (best.piece < length counts.now) }
-    ensures { result ≡ P.chosen store.now counts.now piece best }
+// The best after one more piece.
+fn with_piece(
+    store: &[u8],
+    counts: &[u32],
+    disk: Disk,
+    best: Option<usize>,
+    piece: usize,
+) -> Option<usize>
+    requires { (usable store.now ≡ true) × DiskOf store.now disk × (length counts.now ≡ piece_count (file_length store.now) (piece_length store.now)) × (piece < length counts.now) × ((P.picked best).piece < length counts.now) }
+    ensures { P.picked result ≡ P.chosen store.now counts.now piece (P.picked best) }
 {
     let count = counts[piece];
     if count == 0 {
@@ -84,55 +88,66 @@ fn with_piece(store: &[u8], counts: &[u32], disk: Disk, best: Choice, piece: usi
     if whole {
         return best;
     }
-    let this = piece as u64;
-    Choice {
-        number: 0,
-        found: 1,
-        piece: this,
-    }
+    Some(piece)
 }
 
-// The choice among all pieces.
-fn best_piece(store: &[u8], counts: &[u32]) -> Choice
+// The best of all pieces.
+fn best_piece(store: &[u8], counts: &[u32]) -> Option<usize>
     requires { (usable store.now ≡ true) × (length counts.now ≡ piece_count (file_length store.now) (piece_length store.now)) }
-    ensures { result ≡ P.best_of store.now counts.now (length counts.now) }
+    ensures { P.picked result ≡ P.best_of store.now counts.now (length counts.now) }
 {
     let d = disk_of(store);
     let n = counts.len();
-    let mut best = no_piece(numbers::DONE);
-    let mut i = 0;
-    while i < n {
+    let mut best = None;
+    for i in 0..n {
         let next = with_piece(store, counts, d, best, i);
         best = next;
-        i += 1;
     }
     best
 }
 
-// Nothing to fetch, or a refusal.
-fn no_piece(number: u32) -> Choice
-    ensures { result ≡ P.no_piece number }
-{
-    Choice {
-        number,
-        found: 0,
-        piece: 0,
+impl From<Result<Option<usize>, Refused>> for Choice {
+    ghost from_gives = { λ outcome choice. choice ≡ P.choice_of outcome };
+
+    fn from(outcome: Result<Option<usize>, Refused>) -> Choice {
+        match outcome {
+            Ok(Some(piece)) => Choice {
+                number: 0,
+                found: 1,
+                piece: piece as u64,
+            },
+            Ok(None) => Choice {
+                number: 0,
+                found: 0,
+                piece: 0,
+            },
+            Err(why) => Choice {
+                number: u32::from(why),
+                found: 0,
+                piece: 0,
+            },
+        }
     }
+}
+
+fn picked(store: &[u8], counts: &[u32]) -> Result<Option<usize>, Refused>
+    ensures { P.choice_of result ≡ P.pick_answer store.now counts.now }
+{
+    if !is_usable(store) {
+        return Err(Refused::Unusable);
+    }
+    let size = file_length(store);
+    let plen = piece_length_of(store);
+    let c = piece_count(size, plen);
+    if counts.len() != c {
+        return Err(Refused::WrongSize);
+    }
+    Ok(best_piece(store, counts))
 }
 
 // The piece to fetch: 9, 4, or 0 with the rarest piece that isn't on disk, the lowest on a tie, or with nothing to fetch.
 pub fn pick_piece(store: &[u8], counts: &[u32]) -> Choice
     ensures { result ≡ P.pick_answer store.now counts.now }
 {
-    let ok = is_usable(store);
-    if !ok {
-        return no_piece(numbers::UNUSABLE);
-    }
-    let size = file_length(store);
-    let plen = piece_length_of(store);
-    let c = piece_count(size, plen);
-    if counts.len() != c {
-        return no_piece(numbers::WRONG_SIZE);
-    }
-    best_piece(store, counts)
+    Choice::from(picked(store, counts))
 }

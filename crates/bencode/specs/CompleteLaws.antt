@@ -1,23 +1,19 @@
 -- The walk takes the encoding of every valid value, whatever stands behind it: `complete`. By the value, with the bytes left to read
 -- as a variable, so that an encoding inside another is the same case.
 -- Assumes nothing.
-use Rattle.std.specs.Prelude.{◌≡◌, Bool, true, false, length, drop, ltb}
+use Rattle.bencode.specs.declared.walk.Amiss.{Amiss}
+use Rattle.bencode.specs.Scalar.{whole}
+use Rattle.bencode.specs.Scalar.{part}
+use Rattle.bencode.specs.Scalar.{is}
+use Rattle.std.specs.Prelude.{◌≡◌, Bool, true, false, length, drop, ltb, List, [], ◌∷◌, ◌++◌, ℕ, zero, suc, ◌+◌, ◌-◌, ◌*◌, ◌/◌, ◌%◌, ◌^◌, ◌≤◌, ◌<◌, Ok, Result}
 use Rattle.std.proofs.Math.Path.{refl}
-use Rattle.std.proofs.Common.{ap, ◌∙◌, div-add-mod', mod-lt, arith, length-append}
-use mathlib.Core.List.{List, [], ◌∷◌, ◌++◌, append_assoc}
-use Prim.Native.Nat.{ℕ, zero, suc, ◌+◌, ◌-◌, ◌*◌, ◌/◌, ◌%◌, ◌^◌, ◌≤◌, ◌<◌}
+use Rattle.std.proofs.Common.{ap, ◌∙◌, div-add-mod', mod-lt, arith, length-append, append_assoc, eq-eqb, ne_eqb, lt-ltb, le-ltb, le-leb, ltb-true, ltb-false}
 use Rattle.std.proofs.Math.Seq.{drop-append_seam, take-append_seam}
-use borrow.Author.Tests.{eq-eqb, ne_eqb, lt-ltb, le-ltb, le-leb, ltb-true, ltb-false}
 use Rattle.octets.specs.Octets.{cut}
 use Rattle.bencode.specs.Grammar.{minus_sign, digit_zero, digit_nine, colon, letter_d, letter_e, letter_i, letter_l, Value, integer, string, list, dictionary, Items, no_items, item, Entries, no_entries, entry, decimal_in, decimal, sign, encode_string, encode, encode_items, encode_entries, KeyBefore, none, after, ascends, IntegerFits, Valid, ItemsValid, EntriesValid}
 use Rattle.bencode.specs.Scalar.{bounded, read_digits, read_zero, read_number, content_in, read_string, negative, positive, read_signed, read_integer}
 use Rattle.bencode.specs.Walk.{past_integer, past_string, end_or, between, in_order, read_key, walk_items, walk_entries, walk_list, walk_dictionary, by_first, walk_value}
 use Rattle.bencode.specs.CondLaws.{cond_case}
-use Rattle.bencode.specs.declared.decimal.Number.TheVariants.{Is}
-use Rattle.bencode.specs.declared.scalar.ByteString.TheVariants.{Content}
-use Rattle.bencode.specs.declared.scalar.Integer.TheVariants.{Whole}
-use Rattle.bencode.specs.declared.walk.Walked.{Walked}
-use Rattle.bencode.specs.declared.walk.Walked.TheVariants.{Past}
 
 -- ---- numbers
 
@@ -74,7 +70,7 @@ unfolding BeginsWithDigit
 decimal_some n = let w = decimal_first n in omega (arith, ap length w.2)
 
 module _ (stop : ℕ) (big : digit_nine < stop) (at : ℕ) (r : List ℕ) where
-  zero_read : (n : ℕ) → n ≡ 0 → read_number stop at (decimal n ++ stop ∷ r) ≡ Is n (at + length (decimal n) + 1)
+  zero_read : (n : ℕ) → n ≡ 0 → read_number stop at (decimal n ++ stop ∷ r) ≡ is n (at + length (decimal n) + 1)
   unfolding decimal_in read_number read_zero
   zero_read n e = rw e (simp (eq-eqb stop stop refl))
 
@@ -85,15 +81,15 @@ module _ (stop : ℕ) (big : digit_nine < stop) (at : ℕ) (r : List ℕ) where
       let high = w.4 in
       rw w.2 (simp (ne_eqb w.0 digit_zero (λ q. omega arith), ne_eqb w.0 stop (λ q. omega arith)))
 
-  stop_read : (n k : ℕ) → read_digits stop n k (stop ∷ r) ≡ Is n (k + 1)
+  stop_read : (n k : ℕ) → read_digits stop n k (stop ∷ r) ≡ is n (k + 1)
   unfolding read_digits
   stop_read n k = simp (eq-eqb stop stop refl)
 
   -- a number that was written is read back
-  pub number_read : (n : ℕ) → read_number stop at (decimal n ++ stop ∷ r) ≡ Is n (at + length (decimal n) + 1)
+  pub number_read : (n : ℕ) → read_number stop at (decimal n ++ stop ∷ r) ≡ is n (at + length (decimal n) + 1)
   number_read n = by_size n refl
     where
-      by_size : (m : ℕ) → n ≡ m → read_number stop at (decimal n ++ stop ∷ r) ≡ Is n (at + length (decimal n) + 1)
+      by_size : (m : ℕ) → n ≡ m → read_number stop at (decimal n ++ stop ∷ r) ≡ is n (at + length (decimal n) + 1)
       by_size zero e = zero_read n e
       by_size (suc m) e =
           by_digits (decimal n) (stop ∷ r) n (decimal_first n) (omega arith)
@@ -102,7 +98,7 @@ module _ (stop : ℕ) (big : digit_nine < stop) (at : ℕ) (r : List ℕ) where
 
 -- ---- strings and integers
 
-content_read : (end n k : ℕ) → n ≤ end - k → content_in end (Is n k) ≡ Content k (k + n)
+content_read : (end n k : ℕ) → n ≤ end - k → content_in end (is n k) ≡ part k (k + n)
 content_read end n k h = simp (le-leb n (end - k) h)
 
 -- where the content of a string begins, whose encoding begins at `at`
@@ -110,7 +106,7 @@ abbrev pub content_start : ℕ → List ℕ → ℕ
 content_start at b = at + length (decimal (length b)) + 1
 
 -- so is a string
-pub string_read : (at : ℕ) (b r : List ℕ) → read_string at (encode_string b ++ r) ≡ Content (content_start at b) (at + length (encode_string b))
+pub string_read : (at : ℕ) (b r : List ℕ) → read_string at (encode_string b ++ r) ≡ part (content_start at b) (at + length (encode_string b))
 string_read at b r =
     let n = length b in
     let k = content_start at b in
@@ -119,7 +115,7 @@ string_read at b r =
     let lb = length-append b r in
     let lc = length-append (decimal n) (colon ∷ b) in
     let o : k + n ≡ at + length (encode_string b) = omega arith in
-    rw append_assoc (ap (content_in end) (number_read colon (omega arith) at (b ++ r) n) ∙ content_read end n k (omega arith) ∙ ap (Content k) o)
+    rw append_assoc (ap (content_in end) (number_read colon (omega arith) at (b ++ r) n) ∙ content_read end n k (omega arith) ∙ ap (part k) o)
 
 -- the content's bytes are the string
 pub content_bytes : (at : ℕ) (b r : List ℕ) → between at (encode_string b ++ r) (content_start at b) (at + length (encode_string b)) ≡ b
@@ -135,20 +131,20 @@ content_bytes at b r =
 
 -- and an integer, past its `i`
 pub signed_read : (at : ℕ) (minus : Bool) (n : ℕ) (r : List ℕ) → IntegerFits minus n
-    → read_signed at (sign minus ++ (decimal n ++ letter_e ∷ r)) ≡ Whole minus n (at + length (sign minus) + length (decimal n) + 1)
+    → read_signed at (sign minus ++ (decimal n ++ letter_e ∷ r)) ≡ whole minus n (at + length (sign minus) + length (decimal n) + 1)
 unfolding read_signed
 signed_read at true n r h =
     let p = h.0 in
     let q = h.1 in
     let k = at + 1 + length (decimal n) + 1 in
-    let fits : bounded (Is n k) ≡ Is n k = simp (le-leb n (2 ^ 63) q) in
+    let fits : bounded (is n k) ≡ is n k = simp (le-leb n (2 ^ 63) q) in
     ap negative (ap bounded (number_read letter_e (omega arith) (at + 1) r n) ∙ fits) ∙ simp (ne_eqb n 0 (λ q. omega arith))
 signed_read at false n r h =
     let k = at + length (decimal n) + 1 in
-    let fits : bounded (Is n k) ≡ Is n k = simp (le-leb n (2 ^ 63) (omega arith)) in
+    let fits : bounded (is n k) ≡ is n k = simp (le-leb n (2 ^ 63) (omega arith)) in
     no_minus (decimal n) (decimal_first n)
     ∙ ap positive (ap bounded (number_read letter_e (omega arith) at r n) ∙ fits)
-    ∙ simp (lt-ltb n (2 ^ 63) h) (ap (Whole false n) (omega arith))
+    ∙ simp (lt-ltb n (2 ^ 63) h) (ap (whole false n) (omega arith))
   where
     no_minus : (ds : List ℕ) → BeginsWithDigit ds n → read_signed at (ds ++ letter_e ∷ r) ≡ positive (bounded (read_number letter_e at (ds ++ letter_e ∷ r)))
     no_minus ds w = unfold BeginsWithDigit in rw w.2 (simp (ne_eqb w.0 minus_sign (λ q. omega (arith, w.3))))
@@ -168,11 +164,11 @@ integer_length minus n =
 
 -- an integer that was written is read back
 pub integer_read : (at : ℕ) (minus : Bool) (n : ℕ) (r : List ℕ) → IntegerFits minus n
-    → read_integer at (encode (integer minus n) ++ r) ≡ Whole minus n (at + length (encode (integer minus n)))
+    → read_integer at (encode (integer minus n) ++ r) ≡ whole minus n (at + length (encode (integer minus n)))
 unfolding read_integer
 integer_read at minus n r h =
     let o : at + 1 + length (sign minus) + length (decimal n) + 1 ≡ at + length (encode (integer minus n)) = omega (arith, integer_length minus n) in
-    rw (integer_bytes minus n r) (signed_read (at + 1) minus n r h ∙ ap (Whole minus n) o)
+    rw (integer_bytes minus n r) (signed_read (at + 1) minus n r h ∙ ap (whole minus n) o)
 
 -- a list's encoding
 pub list_bytes : (vs : Items) → encode (list vs) ≡ letter_l ∷ encode_items vs
@@ -218,7 +214,7 @@ module _ (l at : ℕ) where
 
 -- no encoding begins with an `e`
 unfoldable pub NoEnd : List ℕ → Type 0
-NoEnd e = (at : ℕ) (xs : List ℕ) (w : Walked) → end_or at (e ++ xs) w ≡ w
+NoEnd e = (at : ℕ) (xs : List ℕ) (w : Result ℕ Amiss) → end_or at (e ++ xs) w ≡ w
 
 digits_no_end : (ds ys : List ℕ) (n : ℕ) → BeginsWithDigit ds n → NoEnd (ds ++ ys)
 unfolding BeginsWithDigit NoEnd end_or
@@ -255,18 +251,18 @@ pub past_part : (at : ℕ) (e r : List ℕ) → drop (at + length e - at) (e ++ 
 past_part at e r = let o : at + length e - at ≡ length e = omega arith in rw o (drop-append_seam e r)
 
 -- one item
-pub items_one : (value : ℕ → List ℕ → Walked) (f at : ℕ) (e r : List ℕ) → NoEnd e → value at (e ++ r) ≡ Past (at + length e)
+pub items_one : (value : ℕ → List ℕ → Result ℕ Amiss) (f at : ℕ) (e r : List ℕ) → NoEnd e → value at (e ++ r) ≡ Ok (at + length e)
     → walk_items value (suc f) at (e ++ r) ≡ walk_items value f (at + length e) r
 unfolding walk_items NoEnd
 items_one value f at e r n q = n at r _ ∙ rw q (rw (past_part at e r) refl)
 
 -- a key that ascends is read back
-pub key_read : (at : ℕ) (k r : List ℕ) (j : KeyBefore) → ascends j k ≡ true → read_key j at (encode_string k ++ r) ≡ Content (content_start at k) (at + length (encode_string k))
+pub key_read : (at : ℕ) (k r : List ℕ) (j : KeyBefore) → ascends j k ≡ true → read_key j at (encode_string k ++ r) ≡ part (content_start at k) (at + length (encode_string k))
 key_read at k r j a = ap (in_order j at (encode_string k ++ r)) (string_read at k r) ∙ rw (content_bytes at k r, a) refl
 
 -- one entry
-pub entries_one : (value : ℕ → List ℕ → Walked) (f at : ℕ) (j : KeyBefore) (k e r : List ℕ) → ascends j k ≡ true
-    → value (at + length (encode_string k)) (e ++ r) ≡ Past (at + length (encode_string k) + length e)
+pub entries_one : (value : ℕ → List ℕ → Result ℕ Amiss) (f at : ℕ) (j : KeyBefore) (k e r : List ℕ) → ascends j k ≡ true
+    → value (at + length (encode_string k)) (e ++ r) ≡ Ok (at + length (encode_string k) + length e)
     → walk_entries value (suc f) j at (encode_string k ++ (e ++ r)) ≡ walk_entries value f (after k) (at + length (encode_string k) + length e) r
 unfolding walk_entries NoEnd
 entries_one value f at j k e r a q =
@@ -278,22 +274,22 @@ entries_one value f at j k e r a q =
     string_no_end k at (e ++ r) _
     ∙ rw (key_read at k (e ++ r) j a) (rw (past_part at (encode_string k) (e ++ r), q) (rw (z, content_bytes at k (e ++ r)) refl))
 
-items_none : (value : ℕ → List ℕ → Walked) (f at : ℕ) (r : List ℕ) → walk_items value (suc f) at (letter_e ∷ r) ≡ Past (at + 1)
+items_none : (value : ℕ → List ℕ → Result ℕ Amiss) (f at : ℕ) (r : List ℕ) → walk_items value (suc f) at (letter_e ∷ r) ≡ Ok (at + 1)
 unfolding walk_items end_or
 items_none value f at r = refl
 
-entries_none : (value : ℕ → List ℕ → Walked) (f : ℕ) (j : KeyBefore) (at : ℕ) (r : List ℕ) → walk_entries value (suc f) j at (letter_e ∷ r) ≡ Past (at + 1)
+entries_none : (value : ℕ → List ℕ → Result ℕ Amiss) (f : ℕ) (j : KeyBefore) (at : ℕ) (r : List ℕ) → walk_entries value (suc f) j at (letter_e ∷ r) ≡ Ok (at + 1)
 unfolding walk_entries end_or
 entries_none value f j at r = refl
 
 -- ---- values
 
-integer_complete : (minus : Bool) (n l at : ℕ) (r : List ℕ) → IntegerFits minus n → walk_value l at (encode (integer minus n) ++ r) ≡ Past (at + length (encode (integer minus n)))
+integer_complete : (minus : Bool) (n l at : ℕ) (r : List ℕ) → IntegerFits minus n → walk_value l at (encode (integer minus n) ++ r) ≡ Ok (at + length (encode (integer minus n)))
 integer_complete minus n l at r h =
     let o : at + 1 + length (sign minus) + length (decimal n) + 1 ≡ at + length (encode (integer minus n)) = omega (arith, integer_length minus n) in
-    rw (integer_bytes minus n r) (walk_integer l at (sign minus ++ (decimal n ++ letter_e ∷ r)) ∙ ap past_integer (signed_read (at + 1) minus n r h) ∙ ap Past o)
+    rw (integer_bytes minus n r) (walk_integer l at (sign minus ++ (decimal n ++ letter_e ∷ r)) ∙ ap past_integer (signed_read (at + 1) minus n r h) ∙ ap Ok o)
 
-string_complete : (b : List ℕ) (l at : ℕ) (r : List ℕ) → walk_value l at (encode_string b ++ r) ≡ Past (at + length (encode_string b))
+string_complete : (b : List ℕ) (l at : ℕ) (r : List ℕ) → walk_value l at (encode_string b ++ r) ≡ Ok (at + length (encode_string b))
 string_complete b l at r = first_is_digit ∙ ap past_string (string_read at b r)
   where
     first_is_digit : walk_value l at (encode_string b ++ r) ≡ past_string (read_string at (encode_string b ++ r))
@@ -302,7 +298,7 @@ string_complete b l at r = first_is_digit ∙ ap past_string (string_read at b r
 mutual
   unfolding encode Valid
 
-  pub complete : (v : Value) (l at : ℕ) (r : List ℕ) → Valid v l → walk_value l at (encode v ++ r) ≡ Past (at + length (encode v))
+  pub complete : (v : Value) (l at : ℕ) (r : List ℕ) → Valid v l → walk_value l at (encode v ++ r) ≡ Ok (at + length (encode v))
   complete (integer minus n) l at r h = integer_complete minus n l at r h
   complete (string b) l at r h = string_complete b l at r
   complete (list vs) zero at r h = absurd h
@@ -310,15 +306,15 @@ mutual
       let o : at + 1 + length (encode_items vs) ≡ at + length (encode (list vs)) = omega arith in
       walk_list_lem l at (encode_items vs ++ r)
       ∙ items_complete vs l (suc (length (encode_items vs ++ r))) (at + 1) r h (omega (arith, length-append (encode_items vs) r))
-      ∙ ap Past o
+      ∙ ap Ok o
   complete (dictionary es) zero at r h = absurd h
   complete (dictionary es) (suc l) at r h =
       let o : at + 1 + length (encode_entries es) ≡ at + length (encode (dictionary es)) = omega arith in
       walk_dictionary_lem l at (encode_entries es ++ r)
       ∙ entries_complete es l none (suc (length (encode_entries es ++ r))) (at + 1) r h (omega (arith, length-append (encode_entries es) r))
-      ∙ ap Past o
+      ∙ ap Ok o
 
-  pub items_complete : (vs : Items) (l f at : ℕ) (r : List ℕ) → ItemsValid vs l → length (encode_items vs) ≤ f → walk_items (walk_value l) f at (encode_items vs ++ r) ≡ Past (at + length (encode_items vs))
+  pub items_complete : (vs : Items) (l f at : ℕ) (r : List ℕ) → ItemsValid vs l → length (encode_items vs) ≤ f → walk_items (walk_value l) f at (encode_items vs ++ r) ≡ Ok (at + length (encode_items vs))
   items_complete no_items l zero at r h g = absurd (omega arith)
   items_complete no_items l (suc f) at r h g = items_none (walk_value l) f at r
   items_complete (item v vs) l zero at r h g = absurd (omega (arith, length-append (encode v) (encode_items vs), value_some v))
@@ -329,9 +325,9 @@ mutual
       rw append_assoc
       (items_one (walk_value l) f at (encode v) (encode_items vs ++ r) (value_no_end v) (complete v l at (encode_items vs ++ r) h.0)
       ∙ items_complete vs l f (at + length (encode v)) r h.1 (omega arith)
-      ∙ ap Past o)
+      ∙ ap Ok o)
 
-  pub entries_complete : (es : Entries) (l : ℕ) (j : KeyBefore) (f at : ℕ) (r : List ℕ) → EntriesValid es j l → length (encode_entries es) ≤ f → walk_entries (walk_value l) f j at (encode_entries es ++ r) ≡ Past (at + length (encode_entries es))
+  pub entries_complete : (es : Entries) (l : ℕ) (j : KeyBefore) (f at : ℕ) (r : List ℕ) → EntriesValid es j l → length (encode_entries es) ≤ f → walk_entries (walk_value l) f j at (encode_entries es ++ r) ≡ Ok (at + length (encode_entries es))
   entries_complete no_entries l j zero at r h g = absurd (omega arith)
   entries_complete no_entries l j (suc f) at r h g = entries_none (walk_value l) f j at r
   entries_complete (entry k v es) l j zero at r h g = absurd (omega (arith, length-append (encode_string k) (encode v ++ encode_entries es), string_some k))
@@ -344,4 +340,4 @@ mutual
       rw s
       (entries_one (walk_value l) f at j k (encode v) (encode_entries es ++ r) h.0 (complete v l (at + length (encode_string k)) (encode_entries es ++ r) h.1)
       ∙ entries_complete es l (after k) f (at + length (encode_string k) + length (encode v)) r h.2 (omega arith)
-      ∙ ap Past o)
+      ∙ ap Ok o)

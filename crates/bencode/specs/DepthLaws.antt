@@ -1,11 +1,11 @@
 -- When the walk finds bytes too deep: where they begin with a stem, which opens every level that is left after nothing but what is
 -- strict, and then open one more (`deep_complete`, `deep_sound`). A stem can go on, with the levels or with one more (`filled`).
 -- Assumes nothing.
-use Rattle.std.specs.Prelude.{◌≡◌, refl, ◌⊎◌, true, drop, eqb}
-use Rattle.std.proofs.Common.{sym, ◌∙◌, inl, inr, arith, eqb-true}
+use Rattle.bencode.specs.declared.walk.Amiss.{Amiss}
+use Rattle.bencode.specs.declared.walk.Amiss.TheVariants.{Broken, TooDeep}
+use Rattle.std.specs.Prelude.{◌≡◌, refl, ◌⊎◌, true, drop, eqb, List, [], ◌∷◌, ◌++◌, ℕ, zero, suc, ◌+◌, ◌-◌, ◌≤◌, Option, Some, None, Err, Ok, Result}
+use Rattle.std.proofs.Common.{sym, ◌∙◌, inl, inr, arith, eqb-true, append_assoc, append-nil}
 use Rattle.std.proofs.Math.Path.{ap}
-use mathlib.Core.List.{List, [], ◌∷◌, ◌++◌, append_assoc, append-nil}
-use Prim.Native.Nat.{ℕ, zero, suc, ◌+◌, ◌-◌, ◌≤◌}
 use Rattle.std.proofs.Math.ListN.{length, length-append}
 use Rattle.std.proofs.Math.Seq.{drop-append_seam}
 use Rattle.bencode.specs.Grammar.{letter_d, letter_e, letter_i, letter_l, Value, integer, string, list, dictionary, Items, no_items, item, Entries, no_entries, entry, encode_string, encode, encode_items, encode_entries, KeyBefore, none, after, ascends, Valid, ItemsValid, EntriesValid}
@@ -14,12 +14,8 @@ use Rattle.bencode.specs.Walk.{past_integer, past_string, onward, with_key, end_
 use Rattle.bencode.specs.CondLaws.{cond_case}
 use Rattle.bencode.specs.CompleteLaws.{complete, NoEnd, value_no_end, string_no_end, value_some, string_some, items_one, entries_one, key_read, past_part, walk_list_lem, walk_dictionary_lem, list_bytes, dictionary_bytes}
 use Rattle.bencode.specs.SoundLaws.{Begins, ValueIs, rest_is, value_sound, KeyIs, key_sound}
-use Rattle.bencode.specs.declared.scalar.ByteString.{ByteString}
-use Rattle.bencode.specs.declared.scalar.ByteString.TheVariants.{Content, NoString}
+use Rattle.bencode.specs.declared.part.Part.{Part}
 use Rattle.bencode.specs.declared.scalar.Integer.{Integer}
-use Rattle.bencode.specs.declared.scalar.Integer.TheVariants.{Whole, NoInteger}
-use Rattle.bencode.specs.declared.walk.Walked.{Walked}
-use Rattle.bencode.specs.declared.walk.Walked.TheVariants.{Past, Broken, TooDeep}
 
 -- ---- stems
 
@@ -77,13 +73,13 @@ begins_open here c r o = (c, r, o, refl)
 begins_open (in_list vs st) c r o = (letter_l, _, inl refl, refl)
 begins_open (in_dictionary es k st) c r o = (letter_d, _, inr refl, refl)
 
-open_no_end : (o : ℕ) (q : List ℕ) → Opening o → (at : ℕ) (w : Walked) → end_or at (o ∷ q) w ≡ w
+open_no_end : (o : ℕ) (q : List ℕ) → Opening o → (at : ℕ) (w : Result ℕ Amiss) → end_or at (o ∷ q) w ≡ w
 unfolding end_or
 open_no_end o q (inl e) at w = rw e
 open_no_end o q (inr e) at w = rw e
 
-module _ (l : ℕ) (o : ℕ) (q : List ℕ) (opens : Opening o) (deep : (at : ℕ) → walk_value l at (o ∷ q) ≡ TooDeep) where
-  items_deep : (vs : Items) (f at : ℕ) → ItemsValid vs l → length (begun_items vs ++ o ∷ q) ≤ f → walk_items (walk_value l) f at (begun_items vs ++ o ∷ q) ≡ TooDeep
+module _ (l : ℕ) (o : ℕ) (q : List ℕ) (opens : Opening o) (deep : (at : ℕ) → walk_value l at (o ∷ q) ≡ (Err TooDeep)) where
+  items_deep : (vs : Items) (f at : ℕ) → ItemsValid vs l → length (begun_items vs ++ o ∷ q) ≤ f → walk_items (walk_value l) f at (begun_items vs ++ o ∷ q) ≡ (Err TooDeep)
   unfolding begun_items Valid walk_items
   items_deep no_items zero at h g = absurd (omega arith)
   items_deep no_items (suc f) at h g = open_no_end o q opens at _ ∙ rw (deep at)
@@ -98,7 +94,7 @@ module _ (l : ℕ) (o : ℕ) (q : List ℕ) (opens : Opening o) (deep : (at : �
       ∙ items_deep vs f (at + length (encode v)) h.1 (omega arith))
 
   entries_deep : (es : Entries) (j : KeyBefore) (f at : ℕ) (k : List ℕ) → EntriesValid es j l → ascends (last_key j es) k ≡ true
-      → length (begun_entries es ++ (encode_string k ++ o ∷ q)) ≤ f → walk_entries (walk_value l) f j at (begun_entries es ++ (encode_string k ++ o ∷ q)) ≡ TooDeep
+      → length (begun_entries es ++ (encode_string k ++ o ∷ q)) ≤ f → walk_entries (walk_value l) f j at (begun_entries es ++ (encode_string k ++ o ∷ q)) ≡ (Err TooDeep)
   unfolding begun_entries last_key Valid walk_entries NoEnd
   entries_deep no_entries j zero at k h a g = absurd (omega (arith, length-append (encode_string k) (o ∷ q)))
   entries_deep no_entries j (suc f) at k h a g =
@@ -119,26 +115,26 @@ module _ (l : ℕ) (o : ℕ) (q : List ℕ) (opens : Opening o) (deep : (at : �
       (entries_one (walk_value l) f at j i (encode v) (begun_entries es ++ behind) h.0 (complete v l (at + length (encode_string i)) (begun_entries es ++ behind) h.1)
       ∙ entries_deep es (after i) f (at + length (encode_string i) + length (encode v)) k h.2 a (omega arith))
 
-none_left : (at c : ℕ) (r : List ℕ) → Opening c → walk_value 0 at (c ∷ r) ≡ TooDeep
+none_left : (at c : ℕ) (r : List ℕ) → Opening c → walk_value 0 at (c ∷ r) ≡ (Err TooDeep)
 unfolding walk_value by_first
 none_left at c r (inl e) = rw e
 none_left at c r (inr e) = rw e
 
 -- a stem and an opening byte are too deep, whatever stands behind
-pub deep_complete : {l : ℕ} (st : Stem l) (at c : ℕ) (r : List ℕ) → StemValid st → Opening c → walk_value l at (begun st ++ c ∷ r) ≡ TooDeep
+pub deep_complete : {l : ℕ} (st : Stem l) (at c : ℕ) (r : List ℕ) → StemValid st → Opening c → walk_value l at (begun st ++ c ∷ r) ≡ (Err TooDeep)
 unfolding begun StemValid
 deep_complete here at c r h o = none_left at c r o
 deep_complete (in_list {l} vs st) at c r h o =
     let b = begins_open st c r o in
     let ys = b.0 ∷ b.1 in
-    let deep : (i : ℕ) → walk_value l i ys ≡ TooDeep = λ i. rw b.3 at (deep_complete st i c r h.1 o) in
+    let deep : (i : ℕ) → walk_value l i ys ≡ (Err TooDeep) = λ i. rw b.3 at (deep_complete st i c r h.1 o) in
     let e : (begun_items vs ++ begun st) ++ c ∷ r ≡ begun_items vs ++ ys = append_assoc (begun_items vs) (begun st) (c ∷ r) ∙ ap (λ (t : List ℕ). begun_items vs ++ t) b.3 in
     walk_list_lem l at ((begun_items vs ++ begun st) ++ c ∷ r)
     ∙ rw e (items_deep l b.0 b.1 b.2 deep vs (suc (length (begun_items vs ++ ys))) (at + 1) h.0 (omega arith))
 deep_complete (in_dictionary {l} es k st) at c r h o =
     let b = begins_open st c r o in
     let ys = b.0 ∷ b.1 in
-    let deep : (i : ℕ) → walk_value l i ys ≡ TooDeep = λ i. rw b.3 at (deep_complete st i c r h.2 o) in
+    let deep : (i : ℕ) → walk_value l i ys ≡ (Err TooDeep) = λ i. rw b.3 at (deep_complete st i c r h.2 o) in
     let e : (begun_entries es ++ (encode_string k ++ begun st)) ++ c ∷ r ≡ begun_entries es ++ (encode_string k ++ ys) =
     append_assoc (begun_entries es) (encode_string k ++ begun st) (c ∷ r)
     ∙ ap (λ (t : List ℕ). begun_entries es ++ t) (append_assoc (encode_string k) (begun st) (c ∷ r) ∙ ap (λ (t : List ℕ). encode_string k ++ t) b.3) in
@@ -215,28 +211,28 @@ dictionary_around l xs p =
           ∙ sym (append_assoc (begun_entries p.0) (encode_string p.1 ++ begun d.0) tail)),
     )
 
-abbrev DeepIs : (List ℕ → Type 0) → List ℕ → Walked → Type 0
-DeepIs P xs Broken = Unit {0}
-DeepIs P xs (Past k) = Unit {0}
-DeepIs P xs TooDeep = P xs
+abbrev DeepIs : (List ℕ → Type 0) → List ℕ → Result ℕ Amiss → Type 0
+DeepIs P xs (Err Broken) = Unit {0}
+DeepIs P xs (Ok k) = Unit {0}
+DeepIs P xs (Err TooDeep) = P xs
 
-end_deep : (P : List ℕ → Type 0) (at : ℕ) (xs : List ℕ) (w : Walked) → DeepIs P xs w → DeepIs P xs (end_or at xs w)
+end_deep : (P : List ℕ → Type 0) (at : ℕ) (xs : List ℕ) (w : Result ℕ Amiss) → DeepIs P xs w → DeepIs P xs (end_or at xs w)
 unfolding end_or
 end_deep P at [] w p = tt
-end_deep P at (c ∷ cs) w p = cond_case (DeepIs P (c ∷ cs)) (eqb c letter_e) (Past (at + 1)) w (λ e. tt) (λ e. p)
+end_deep P at (c ∷ cs) w p = cond_case (DeepIs P (c ∷ cs)) (eqb c letter_e) (Ok (at + 1)) w (λ e. tt) (λ e. p)
 
 module _ (l : ℕ) (ih : (at : ℕ) (xs : List ℕ) → DeepIs (OpensTooDeep l) xs (walk_value l at xs)) where
-  behind_item : (at : ℕ) (xs : List ℕ) (k : ℕ) (b : Begins encode (λ v. Valid v l) at xs k) (w : Walked) → DeepIs (InItems l) (drop (k - at) xs) w → DeepIs (InItems l) xs w
-  behind_item at xs k b Broken p = tt
-  behind_item at xs k b (Past m) p = tt
-  behind_item at xs k b TooDeep p =
+  behind_item : (at : ℕ) (xs : List ℕ) (k : ℕ) (b : Begins encode (λ v. Valid v l) at xs k) (w : Result ℕ Amiss) → DeepIs (InItems l) (drop (k - at) xs) w → DeepIs (InItems l) xs w
+  behind_item at xs k b (Err Broken) p = tt
+  behind_item at xs k b (Ok m) p = tt
+  behind_item at xs k b (Err TooDeep) p =
       let z : drop (k - at) xs ≡ b.rest = rest_is encode (λ v. Valid v l) at xs k b in
       rw b.bytes (item_before l b.it b.rest b.valid (rw z at p))
 
-  items_onward : (at : ℕ) (xs : List ℕ) (w : Walked) (go : ℕ → Walked) → ValueIs l at xs w → DeepIs (OpensTooDeep l) xs w → ((k : ℕ) → DeepIs (InItems l) (drop (k - at) xs) (go k)) → DeepIs (InItems l) xs (onward w go)
-  items_onward at xs Broken go p d h = tt
-  items_onward at xs TooDeep go p d h = first_item l xs d
-  items_onward at xs (Past k) go p d h = behind_item at xs k p (go k) (h k)
+  items_onward : (at : ℕ) (xs : List ℕ) (w : Result ℕ Amiss) (go : ℕ → Result ℕ Amiss) → ValueIs l at xs w → DeepIs (OpensTooDeep l) xs w → ((k : ℕ) → DeepIs (InItems l) (drop (k - at) xs) (go k)) → DeepIs (InItems l) xs (onward w go)
+  items_onward at xs (Err Broken) go p d h = tt
+  items_onward at xs (Err TooDeep) go p d h = first_item l xs d
+  items_onward at xs (Ok k) go p d h = behind_item at xs k p (go k) (h k)
 
   items_is : (f at : ℕ) (xs : List ℕ) → DeepIs (InItems l) xs (walk_items (walk_value l) f at xs)
   unfolding walk_items
@@ -247,10 +243,10 @@ module _ (l : ℕ) (ih : (at : ℕ) (xs : List ℕ) → DeepIs (OpensTooDeep l) 
 
   module _ (j : KeyBefore) (at : ℕ) (xs : List ℕ) where
     module _ (k r : List ℕ) (e : xs ≡ encode_string k ++ r) (a : ascends j k ≡ true) where
-      behind_entry : (m : ℕ) (b : Begins encode (λ v. Valid v l) (at + length (encode_string k)) r m) (w : Walked) → DeepIs (InEntries l (after k)) (drop (m - at) xs) w → DeepIs (InEntries l j) xs w
-      behind_entry m b Broken q = tt
-      behind_entry m b (Past n) q = tt
-      behind_entry m b TooDeep q =
+      behind_entry : (m : ℕ) (b : Begins encode (λ v. Valid v l) (at + length (encode_string k)) r m) (w : Result ℕ Amiss) → DeepIs (InEntries l (after k)) (drop (m - at) xs) w → DeepIs (InEntries l j) xs w
+      behind_entry m b (Err Broken) q = tt
+      behind_entry m b (Ok n) q = tt
+      behind_entry m b (Err TooDeep) q =
           let v = b.it in
           let x = b.ends in
           let lk = length-append (encode_string k) (encode v) in
@@ -260,16 +256,16 @@ module _ (l : ℕ) (ih : (at : ℕ) (xs : List ℕ) → DeepIs (OpensTooDeep l) 
           let z : drop (m - at) xs ≡ b.rest = rw (o, s) (drop-append_seam (encode_string k ++ encode v) b.rest) in
           rw t (entry_before l j k v b.rest a b.valid (rw z at q))
 
-      entries_onward : (w : Walked) (go : ℕ → Walked) → ValueIs l (at + length (encode_string k)) r w → DeepIs (OpensTooDeep l) r w → ((m : ℕ) → DeepIs (InEntries l (after k)) (drop (m - at) xs) (go m)) → DeepIs (InEntries l j) xs (onward w go)
-      entries_onward Broken go q d h = tt
-      entries_onward TooDeep go q d h = rw e (first_entry l j k r a d)
-      entries_onward (Past m) go q d h = behind_entry m q (go m) (h m)
+      entries_onward : (w : Result ℕ Amiss) (go : ℕ → Result ℕ Amiss) → ValueIs l (at + length (encode_string k)) r w → DeepIs (OpensTooDeep l) r w → ((m : ℕ) → DeepIs (InEntries l (after k)) (drop (m - at) xs) (go m)) → DeepIs (InEntries l j) xs (onward w go)
+      entries_onward (Err Broken) go q d h = tt
+      entries_onward (Err TooDeep) go q d h = rw e (first_entry l j k r a d)
+      entries_onward (Ok m) go q d h = behind_entry m q (go m) (h m)
 
-    entries_with_key : (more : KeyBefore → ℕ → List ℕ → Walked) (w : ByteString) → KeyIs j at xs w
+    entries_with_key : (more : KeyBefore → ℕ → List ℕ → Result ℕ Amiss) (w : Option Part) → KeyIs j at xs w
         → ((q : KeyBefore) (i : ℕ) (ys : List ℕ) → DeepIs (InEntries l q) ys (more q i ys))
         → DeepIs (InEntries l j) xs (with_key w (λ x y. onward (walk_value l y (drop (y - at) xs)) (λ m. more (after (between at xs x y)) m (drop (m - at) xs))))
-    entries_with_key more NoString p h = tt
-    entries_with_key more (Content x y) p h =
+    entries_with_key more None p h = tt
+    entries_with_key more (Some w) p h =
         let k = p.0 in
         let r = p.1 in
         let z : drop (at + length (encode_string k) - at) xs ≡ r = rw p.2 (past_part at (encode_string k) r) in
@@ -284,15 +280,15 @@ module _ (l : ℕ) (ih : (at : ℕ) (xs : List ℕ) → DeepIs (OpensTooDeep l) 
       end_deep (InEntries l j) at xs _
       (entries_with_key j at xs (walk_entries (walk_value l) f) (read_key j at xs) (key_sound j at xs) (λ q i ys. entries_is f q i ys))
 
-integer_never : (P : List ℕ → Type 0) (xs : List ℕ) (w : Integer) → DeepIs P xs (past_integer w)
-integer_never P xs NoInteger = tt
-integer_never P xs (Whole minus n k) = tt
+integer_never : (P : List ℕ → Type 0) (xs : List ℕ) (w : Option Integer) → DeepIs P xs (past_integer w)
+integer_never P xs None = tt
+integer_never P xs (Some w) = tt
 
-string_never : (P : List ℕ → Type 0) (xs : List ℕ) (w : ByteString) → DeepIs P xs (past_string w)
-string_never P xs NoString = tt
-string_never P xs (Content a b) = tt
+string_never : (P : List ℕ → Type 0) (xs : List ℕ) (w : Option Part) → DeepIs P xs (past_string w)
+string_never P xs None = tt
+string_never P xs (Some w) = tt
 
-first_byte_is : (P : List ℕ → Type 0) (at : ℕ) (xs : List ℕ) (ls ds : Walked) → ((cs : List ℕ) → xs ≡ letter_l ∷ cs → DeepIs P xs ls) → ((cs : List ℕ) → xs ≡ letter_d ∷ cs → DeepIs P xs ds)
+first_byte_is : (P : List ℕ → Type 0) (at : ℕ) (xs : List ℕ) (ls ds : Result ℕ Amiss) → ((cs : List ℕ) → xs ≡ letter_l ∷ cs → DeepIs P xs ls) → ((cs : List ℕ) → xs ≡ letter_d ∷ cs → DeepIs P xs ds)
     → DeepIs P xs (by_first at xs ls ds)
 unfolding by_first
 first_byte_is P at [] ls ds p q = tt
@@ -302,22 +298,22 @@ first_byte_is P at (c ∷ cs) ls ds p q =
     (λ f. cond_case (DeepIs P (c ∷ cs)) (eqb c letter_d) _ _ (λ g. q cs (ap (λ (x : ℕ). x ∷ cs) (eqb-true c letter_d g)))
     (λ g. string_never P (c ∷ cs) (read_string at (c ∷ cs)))))
 
-around : (P Q : List ℕ → Type 0) (cs xs : List ℕ) (w : Walked) → (P cs → Q xs) → DeepIs P cs w → DeepIs Q xs w
-around P Q cs xs Broken f p = tt
-around P Q cs xs (Past k) f p = tt
-around P Q cs xs TooDeep f p = f p
+around : (P Q : List ℕ → Type 0) (cs xs : List ℕ) (w : Result ℕ Amiss) → (P cs → Q xs) → DeepIs P cs w → DeepIs Q xs w
+around P Q cs xs (Err Broken) f p = tt
+around P Q cs xs (Ok k) f p = tt
+around P Q cs xs (Err TooDeep) f p = f p
 
 deep_is : (l at : ℕ) (xs : List ℕ) → DeepIs (OpensTooDeep l) xs (walk_value l at xs)
 unfolding walk_value
 deep_is zero at xs =
-    first_byte_is (OpensTooDeep 0) at xs TooDeep TooDeep (λ cs e. rw e (opens_here letter_l cs (inl refl))) (λ cs e. rw e (opens_here letter_d cs (inr refl)))
+    first_byte_is (OpensTooDeep 0) at xs (Err TooDeep) (Err TooDeep) (λ cs e. rw e (opens_here letter_l cs (inl refl))) (λ cs e. rw e (opens_here letter_d cs (inr refl)))
 deep_is (suc l) at xs =
     first_byte_is (OpensTooDeep (suc l)) at xs _ _
     (λ cs e. rw e (around (InItems l) (OpensTooDeep (suc l)) cs (letter_l ∷ cs) (walk_list (walk_value l) (at + 1) cs) (list_around l cs) (items_is l (deep_is l) (suc (length cs)) (at + 1) cs)))
     (λ cs e. rw e (around (InEntries l none) (OpensTooDeep (suc l)) cs (letter_d ∷ cs) (walk_dictionary (walk_value l) (at + 1) cs) (dictionary_around l cs) (entries_is l (deep_is l) (suc (length cs)) none (at + 1) cs)))
 
 -- what the walk finds too deep begins with a stem and an opening byte
-pub deep_sound : (l at : ℕ) (xs : List ℕ) → walk_value l at xs ≡ TooDeep → OpensTooDeep l xs
+pub deep_sound : (l at : ℕ) (xs : List ℕ) → walk_value l at xs ≡ (Err TooDeep) → OpensTooDeep l xs
 deep_sound l at xs e = rw e at (deep_is l at xs)
 
 -- ---- a value that is valid but for its levels is valid, or its encoding opens too deep

@@ -126,7 +126,5 @@ pub front_here : (x y : List ℕ) (n i : ℕ) → n ≤ length x → n ≤ lengt
     → Front x y i
 front_here x y n i h k a l d = record { in_first = omega arith; in_second = omega arith; alike = a; apart = λ u v. d }
 
-pub front_end : (x y : List ℕ) (n i : ℕ) → n ≤ length x → n ≤ length y → (n < length x → n < length y → ⊥) → Alike x y i → i ≤ n
-    → n ≤ i → Front x y i
-front_end x y n i h k s a l m =
-    record { in_first = omega arith; in_second = omega arith; alike = a; apart = λ u v e. s (omega arith) (omega arith) }
+pub front_end : (x y : List ℕ) (n i : ℕ) → n ≤ length x → n ≤ length y → (n < length x → n < length y → ⊥) → Alike x y i → n ≤ i → Front x y n
+front_end x y n i h k s a m = record { in_first = h; in_second = k; alike = λ j l. a j (omega arith); apart = λ u v e. s u v }

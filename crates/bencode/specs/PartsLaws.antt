@@ -1,11 +1,14 @@
 -- What parts are. Where they lie, for callers that hand on `&s[a..e]`; and in strict bytes, that they are the encodings of a
 -- dictionary's entries, a list's items, the value of a key, and that each read alone is that value.
 -- Assumes nothing.
-use Rattle.std.specs.Prelude.{◌≡◌, Bool, true, false, cond, ℕ, zero, suc, ◌+◌, ◌-◌, ◌≤◌, ◌<◌, length, drop}
+use Rattle.bencode.specs.declared.walk.Amiss.{Amiss}
+use Rattle.bencode.specs.declared.walk.Amiss.TheVariants.{Broken, TooDeep}
+use Rattle.bencode.specs.Parts.{keyed}
+use Rattle.bencode.specs.Scalar.{whole}
+use Rattle.bencode.specs.Scalar.{part}
+use Rattle.std.specs.Prelude.{◌≡◌, Bool, true, false, cond, ℕ, zero, suc, ◌+◌, ◌-◌, ◌≤◌, ◌<◌, length, drop, List, [], ◌∷◌, ◌++◌, Option, Some, None, Err, Ok, Result}
 use Rattle.std.proofs.Math.Path.{refl}
-use Rattle.std.proofs.Common.{sym, ap, ◌∙◌, length-append, take-append-drop, drop-drop, ne_eqb}
-use mathlib.Core.List.{List, [], ◌∷◌, ◌++◌, append_assoc}
-use native.Mathlib.Omega.{arith}
+use Rattle.std.proofs.Common.{sym, ap, ◌∙◌, length-append, take-append-drop, drop-drop, ne_eqb, append_assoc, arith}
 use Rattle.std.proofs.Math.Seq.{drop-append_seam, take-append_seam}
 use Rattle.limits.specs.Limits.{max_levels}
 use Rattle.octets.specs.Octets.{same, cut}
@@ -18,81 +21,74 @@ use Rattle.bencode.specs.CompleteLaws.{BeginsWithDigit, decimal_first, content_s
 use Rattle.bencode.specs.UniqueLaws.{unique}
 use Rattle.bencode.specs.DepthLaws.{entries_more_levels}
 use Rattle.bencode.specs.declared.scalar.Integer.{Integer}
-use Rattle.bencode.specs.declared.scalar.Integer.TheVariants.{Whole, NoInteger}
-use Rattle.bencode.specs.declared.scalar.ByteString.{ByteString}
-use Rattle.bencode.specs.declared.scalar.ByteString.TheVariants.{Content, NoString}
-use Rattle.bencode.specs.declared.walk.Walked.{Walked}
-use Rattle.bencode.specs.declared.walk.Walked.TheVariants.{Past, Broken, TooDeep}
-use Rattle.bencode.specs.declared.parts.Found.{Found}
-use Rattle.bencode.specs.declared.parts.Found.TheVariants.{Part, Missing}
+use Rattle.bencode.specs.declared.part.Part.{Part}
 use Rattle.bencode.specs.declared.parts.Entry.{Entry}
-use Rattle.bencode.specs.declared.parts.Entry.TheVariants.{Keyed, NoEntry}
 
 -- ---- where they lie
 
-abbrev EntryIn : ℕ → ℕ → Entry → Type 0
-EntryIn at end NoEntry = Unit {0}
-EntryIn at end (Keyed a b k) = (at < a) × (a ≤ b) × (b < k) × (k ≤ end)
+abbrev EntryIn : ℕ → ℕ → Option Entry → Type 0
+EntryIn at end None = Unit {0}
+EntryIn at end (Some w) = (at < w.start) × (w.start ≤ w.value) × (w.value < w.end) × (w.end ≤ end)
 
 entry_in : (at : ℕ) (s : List ℕ) → EntryIn at (length s) (read_entry at (drop at s))
 unfolding read_entry
 entry_in at s = by_key (read_string at (drop at s)) refl
   where
-    by_key : (w : ByteString) → read_string at (drop at s) ≡ w → EntryIn at (length s) (entry_with at (drop at s) w)
-    by_key NoString q = tt
-    by_key (Content a b) q =
-        let p = string_ends at s a b q in
+    by_key : (w : Option Part) → read_string at (drop at s) ≡ w → EntryIn at (length s) (entry_with at (drop at s) w)
+    by_key None q = tt
+    by_key (Some w) q =
+        let p = string_ends at s w.start w.end q in
         let x = p.0 in
         let y = p.1 in
-        let further : drop (b - at) (drop at s) ≡ drop b s = drop_further s at b (omega arith) in
-        by_value p (walk_value max_levels b (drop (b - at) (drop at s))) (ap (walk_value max_levels b) (sym further))
+        let further : drop (w.end - at) (drop at s) ≡ drop w.end s = drop_further s at w.end (omega arith) in
+        by_value p (walk_value max_levels w.end (drop (w.end - at) (drop at s))) (ap (walk_value max_levels w.end) (sym further))
       where
-        by_value : (at < a) × (a ≤ b) × (b ≤ length s) → (v : Walked) → walk_value max_levels b (drop b s) ≡ v → EntryIn at (length s) (entry_to a b v)
-        by_value p Broken f = tt
-        by_value p TooDeep f = tt
-        by_value p (Past k) f = let r = value_ends max_levels b s k f in (p.0, p.1, r.0, r.1)
+        by_value : (at < w.start) × (w.start ≤ w.end) × (w.end ≤ length s) → (v : Result ℕ Amiss) → walk_value max_levels w.end (drop w.end s) ≡ v → EntryIn at (length s) (entry_to w.start w.end v)
+        by_value p (Err Broken) f = tt
+        by_value p (Err TooDeep) f = tt
+        by_value p (Ok k) f = let r = value_ends max_levels w.end s k f in (p.0, p.1, r.0, r.1)
 
 -- an entry lies past the position, key before value, within the bytes
-pub entry_ends : (at : ℕ) (s : List ℕ) (a b k : ℕ) → read_entry at (drop at s) ≡ Keyed a b k → (at < a) × (a ≤ b) × (b < k) × (k ≤ length s)
+pub entry_ends : (at : ℕ) (s : List ℕ) (a b k : ℕ) → read_entry at (drop at s) ≡ keyed a b k → (at < a) × (a ≤ b) × (b < k) × (k ≤ length s)
 entry_ends at s a b k e = rw e at (entry_in at s)
 
-abbrev FoundIn : ℕ → ℕ → Found → Type 0
-FoundIn at end Missing = Unit {0}
-FoundIn at end (Part a b) = (at < a) × (a < b) × (b ≤ end)
+abbrev FoundIn : ℕ → ℕ → Option Part → Type 0
+FoundIn at end None = Unit {0}
+FoundIn at end (Some w) = (at < w.start) × (w.start < w.end) × (w.end ≤ end)
 
 find_in_lem : (key : List ℕ) (steps at : ℕ) (s : List ℕ) → FoundIn at (length s) (find_in key steps at (drop at s))
 unfolding find_in
 find_in_lem key zero at s = tt
 find_in_lem key (suc f) at s = by_entry (read_entry at (drop at s)) refl (λ i. find_in_lem key f i s)
   where
-    further : (a k : ℕ) → a < k → (w : Found) → FoundIn k (length s) w → FoundIn a (length s) w
-    further a k h Missing p = tt
-    further a k h (Part x y) p = let q = p.0 in (omega arith, p.1, p.2)
+    further : (a k : ℕ) → a < k → (w : Option Part) → FoundIn k (length s) w → FoundIn a (length s) w
+    further a k h None p = tt
+    further a k h (Some w) p = let q = p.0 in (omega arith, p.1, p.2)
 
-    by_entry : (w : Entry) → read_entry at (drop at s) ≡ w → ((i : ℕ) → FoundIn i (length s) (find_in key f i (drop i s)))
-        → FoundIn at (length s) (from_entry w (λ a b k. cond (same key (between at (drop at s) a b)) (Part b k) (find_in key f k (drop (k - at) (drop at s)))))
-    by_entry NoEntry q ih = tt
-    by_entry (Keyed a b k) q ih = by_same (same key (between at (drop at s) a b))
+    by_entry : (w : Option Entry) → read_entry at (drop at s) ≡ w → ((i : ℕ) → FoundIn i (length s) (find_in key f i (drop i s)))
+        → FoundIn at (length s) (from_entry w (λ a b k. cond (same key (between at (drop at s) a b)) (part b k) (find_in key f k (drop (k - at) (drop at s)))))
+    by_entry None q ih = tt
+    by_entry (Some w) q ih = by_same (same key (between at (drop at s) w.start w.value))
       where
-        by_same : (t : Bool) → FoundIn at (length s) (cond t (Part b k) (find_in key f k (drop (k - at) (drop at s))))
-        by_same true = let p = entry_ends at s a b k q in let x = p.0 in let y = p.1 in (omega arith, p.2, p.3)
+        by_same : (t : Bool) → FoundIn at (length s) (cond t (part w.value w.end) (find_in key f w.end (drop (w.end - at) (drop at s))))
+        by_same true = let p = entry_ends at s w.start w.value w.end q in let x = p.0 in let y = p.1 in (omega arith, p.2, p.3)
         by_same false =
-            let p = entry_ends at s a b k q in
+            let p = entry_ends at s w.start w.value w.end q in
             let x = p.0 in
             let y = p.1 in
             let z = p.2 in
-            rw (drop_further s at k (omega arith)) (further at k (omega arith) (find_in key f k (drop k s)) (ih k))
+            rw (drop_further s at w.end (omega arith)) (further at w.end (omega arith) (find_in key f w.end (drop w.end s)) (ih w.end))
 
 -- the value of a key lies inside the dictionary, within the bytes
-pub find_ends : (key : List ℕ) (at : ℕ) (s : List ℕ) (a b : ℕ) → find_key key at (drop at s) ≡ Part a b → (at < a) × (a < b) × (b ≤ length s)
+pub find_ends : (key : List ℕ) (at : ℕ) (s : List ℕ) (a b : ℕ) → find_key key at (drop at s) ≡ part a b → (at < a) × (a < b) × (b ≤ length s)
 unfolding find_key
 find_ends key at s a b e = by_first (is_dictionary (drop at s)) e
   where
-    by_first : (t : Bool) → cond t (find_in key (suc (length (drop 1 (drop at s)))) (at + 1) (drop 1 (drop at s))) Missing ≡ Part a b → (at < a) × (a < b) × (b ≤ length s)
+    by_first : (t : Bool) → cond t (find_in key (suc (length (drop 1 (drop at s)))) (at + 1) (drop 1 (drop at s))) None ≡ part a b → (at < a) × (a < b) × (b ≤ length s)
     by_first true e =
         let g = find_in_lem key (suc (length (drop 1 (drop at s)))) (at + 1) s in
         let d : drop (at + 1) s ≡ drop 1 (drop at s) = sym (drop-drop 1 at s) in
-        let p : FoundIn (at + 1) (length s) (Part a b) = rw (d, e) at g in
+        let p : FoundIn (at + 1) (length s) (part a b) = rw (d, e) at g in
         let q = p.0 in
         (omega arith, p.1, p.2)
     by_first false e = let z : ◌≡◌ {A = ℕ} 0 1 = cc in absurd (omega arith)
@@ -104,7 +100,7 @@ pub after_part : (s : List ℕ) (at : ℕ) (p q : List ℕ) → drop at s ≡ p 
 after_part s at p q e = sym (drop-drop (length p) at s) ∙ ap (λ (l : List ℕ). drop (length p) l) e ∙ drop-append_seam p q
 
 -- nothing is found in what is no dictionary
-pub find_no_dictionary : (key s : List ℕ) (at : ℕ) → is_dictionary (drop at s) ≡ false → find_key key at (drop at s) ≡ Missing
+pub find_no_dictionary : (key s : List ℕ) (at : ℕ) → is_dictionary (drop at s) ≡ false → find_key key at (drop at s) ≡ None
 unfolding find_key
 find_no_dictionary key s at e = rw e
 
@@ -124,11 +120,11 @@ one_value v w e = (unique v w [] [] (ap (λ (l : List ℕ). l ++ []) e)).0
 -- ---- of which kind it is
 
 -- an integer's value
-abbrev pub integer_of : ℕ → Value → Integer
-integer_of at (integer minus n) = Whole minus n (at + length (encode (integer minus n)))
-integer_of at (string b) = NoInteger
-integer_of at (list vs) = NoInteger
-integer_of at (dictionary es) = NoInteger
+abbrev pub integer_of : ℕ → Value → Option Integer
+integer_of at (integer minus n) = whole minus n (at + length (encode (integer minus n)))
+integer_of at (string b) = None
+integer_of at (list vs) = None
+integer_of at (dictionary es) = None
 
 -- an integer is read as its value, and no other value as an integer
 pub integer_is : (v : Value) (l at : ℕ) (r : List ℕ) → Valid v l → read_integer at (encode v ++ r) ≡ integer_of at v
@@ -143,11 +139,11 @@ integer_is (list vs) l at r h = unfold encode read_integer in refl
 integer_is (dictionary es) l at r h = unfold encode read_integer in refl
 
 -- a string's content
-abbrev pub string_of : ℕ → Value → ByteString
-string_of at (integer minus n) = NoString
-string_of at (string b) = Content (content_start at b) (at + length (encode_string b))
-string_of at (list vs) = NoString
-string_of at (dictionary es) = NoString
+abbrev pub string_of : ℕ → Value → Option Part
+string_of at (integer minus n) = None
+string_of at (string b) = part (content_start at b) (at + length (encode_string b))
+string_of at (list vs) = None
+string_of at (dictionary es) = None
 
 -- a string is read as its content, and no other value as a string
 pub string_is : (v : Value) (at : ℕ) (r : List ℕ) → read_string at (encode v ++ r) ≡ string_of at v
@@ -191,7 +187,7 @@ abbrev pub value_start : ℕ → List ℕ → ℕ
 value_start at k = at + length (encode_string k)
 
 entry_read : (at : ℕ) (k r : List ℕ) (v : Value) → Valid v max_levels
-    → read_entry at (encode_string k ++ (encode v ++ r)) ≡ Keyed (content_start at k) (value_start at k) (value_start at k + length (encode v))
+    → read_entry at (encode_string k ++ (encode v ++ r)) ≡ keyed (content_start at k) (value_start at k) (value_start at k + length (encode v))
 unfolding read_entry
 entry_read at k r v h =
     ap (entry_with at (encode_string k ++ (encode v ++ r))) (string_read at k (encode v ++ r))
@@ -199,7 +195,7 @@ entry_read at k r v h =
 
 -- an entry is found: its key, its value's part, and the other entries follow
 pub record EntryIs (s : List ℕ) (at : ℕ) (k : List ℕ) (v : Value) (es : Entries) (r : List ℕ) : Type 0 where
-  pub read : read_entry at (drop at s) ≡ Keyed (content_start at k) (value_start at k) (value_start at k + length (encode v))
+  pub read : read_entry at (drop at s) ≡ keyed (content_start at k) (value_start at k) (value_start at k + length (encode v))
   pub key : cut s (content_start at k) (value_start at k - content_start at k) ≡ k
   pub value : cut s (value_start at k) (length (encode v)) ≡ encode v
   pub next : drop (value_start at k + length (encode v)) s ≡ encode_entries es ++ r
@@ -219,7 +215,7 @@ entry_is s at k v es r e h =
     }
 
 -- there is none at the `e`
-pub entry_none : (s : List ℕ) (at : ℕ) (r : List ℕ) → drop at s ≡ encode_entries no_entries ++ r → read_entry at (drop at s) ≡ NoEntry
+pub entry_none : (s : List ℕ) (at : ℕ) (r : List ℕ) → drop at s ≡ encode_entries no_entries ++ r → read_entry at (drop at s) ≡ None
 unfolding read_entry encode read_number read_digits
 entry_none s at r e = rw e refl
 
@@ -244,7 +240,7 @@ between_is : (s : List ℕ) (at a b : ℕ) → at ≤ a → between at (drop at 
 unfolding cut
 between_is s at a b h = rw (drop_further s at a h) refl
 
-by_key : (s : List ℕ) (b end : ℕ) (v : Value) (t : Bool) (x : Found) (y : Lookup) → cut s b (end - b) ≡ encode v → FoundIs s x y → FoundIs s (cond t (Part b end) x) (cond t (present v) y)
+by_key : (s : List ℕ) (b end : ℕ) (v : Value) (t : Bool) (x : Option Part) (y : Lookup) → cut s b (end - b) ≡ encode v → FoundIs s x y → FoundIs s (cond t (part b end) x) (cond t (present v) y)
 by_key s b end v true x y p q = p
 by_key s b end v false x y p q = q
 

@@ -1,26 +1,24 @@
 -- What the walk takes is the encoding of a valid value: `sound`. By the walk, each reading giving back the value that it has read.
 -- Assumes nothing.
-use Rattle.std.specs.Prelude.{◌≡◌, Bool, true, false, cond, ℕ, zero, suc, ◌+◌, ◌-◌, ◌*◌, ◌/◌, ◌%◌, ◌^◌, ◌≤◌, ◌<◌, take, eqb, ltb, leb}
+use Rattle.bencode.specs.declared.walk.Amiss.{Amiss}
+use Rattle.bencode.specs.declared.walk.Amiss.TheVariants.{Broken, TooDeep}
+use Rattle.bencode.specs.Scalar.{whole}
+use Rattle.bencode.specs.Scalar.{part}
+use Rattle.bencode.specs.Scalar.{is}
+use Rattle.std.specs.Prelude.{◌≡◌, Bool, true, false, cond, ℕ, zero, suc, ◌+◌, ◌-◌, ◌*◌, ◌/◌, ◌%◌, ◌^◌, ◌≤◌, ◌<◌, take, eqb, ltb, leb, Option, Some, None, List, [], ◌∷◌, ◌++◌, Err, Ok, Result}
 use Rattle.std.proofs.Math.Path.{refl, sym, ap}
-use Rattle.std.proofs.Common.{◌∙◌, length-take-le}
-use mathlib.Core.List.{List, [], ◌∷◌, ◌++◌, append_assoc, append-nil}
-use native.Mathlib.Omega.{arith}
+use Rattle.std.proofs.Common.{◌∙◌, length-take-le, append_assoc, append-nil, arith, ne_eqb, lt-ltb, le-ltb, ltb-true, ltb-false, leb-true, eqb-true}
 use Rattle.std.proofs.Math.ListN.{length, drop, length-append}
 use Rattle.std.proofs.Math.Seq.{drop-append_seam}
-use borrow.Author.Tests.{ne_eqb, lt-ltb, le-ltb, ltb-true, ltb-false, leb-true, eqb-true, eqb-false}
+use Rattle.std.proofs.lemmas.Bool.{eqb-false}
 use Rattle.bencode.specs.Grammar.{minus_sign, digit_zero, digit_nine, colon, letter_d, letter_e, letter_i, letter_l, integer, string, list, dictionary, no_items, item, no_entries, entry, decimal_in, decimal, sign, encode_string, encode, encode_items, encode_entries, KeyBefore, none, after, ascends, IntegerFits, Valid, ItemsValid, EntriesValid}
 use Rattle.bencode.specs.Scalar.{bounded, read_digits, read_zero, read_number, content_in, read_string, negative, positive, read_signed}
 use Rattle.bencode.specs.Walk.{past_integer, past_string, onward, with_key, end_or, between, in_order, read_key, walk_items, walk_entries, walk_list, walk_dictionary, by_first, walk_value}
 use Rattle.bencode.specs.CondLaws.{cond_case}
 use Rattle.bencode.specs.CompleteLaws.{div_mod, content_start, content_bytes, past_part, integer_bytes, integer_length}
 use Rattle.bencode.specs.declared.decimal.Number.{Number}
-use Rattle.bencode.specs.declared.decimal.Number.TheVariants.{Is, NoNumber}
-use Rattle.bencode.specs.declared.scalar.ByteString.{ByteString}
-use Rattle.bencode.specs.declared.scalar.ByteString.TheVariants.{Content, NoString}
+use Rattle.bencode.specs.declared.part.Part.{Part}
 use Rattle.bencode.specs.declared.scalar.Integer.{Integer}
-use Rattle.bencode.specs.declared.scalar.Integer.TheVariants.{Whole, NoInteger}
-use Rattle.bencode.specs.declared.walk.Walked.{Walked}
-use Rattle.bencode.specs.declared.walk.Walked.TheVariants.{Past, Broken, TooDeep}
 
 -- ---- decimal: more steps change nothing, and a digit behind a number is ten times it and the digit
 
@@ -58,13 +56,13 @@ decimal_longer n d h g =
 
 -- ---- numbers: xs begin with the digits of n that are not among those before, then `stop`
 
-abbrev pub NumberIs : ℕ → ℕ → List ℕ → List ℕ → Number → Type 0
-NumberIs stop at before xs NoNumber = Unit {0}
-NumberIs stop at before xs (Is n k) = (ds r : List ℕ) × (xs ≡ ds ++ stop ∷ r) × (decimal n ≡ before ++ ds) × (k ≡ at + length ds + 1)
+abbrev pub NumberIs : ℕ → ℕ → List ℕ → List ℕ → Option Number → Type 0
+NumberIs stop at before xs None = Unit {0}
+NumberIs stop at before xs (Some w) = (ds r : List ℕ) × (xs ≡ ds ++ stop ∷ r) × (decimal w.value ≡ before ++ ds) × (w.next ≡ at + length ds + 1)
 
-number_longer : (stop at c : ℕ) (before cs : List ℕ) (w : Number) → NumberIs stop (at + 1) (before ++ c ∷ []) cs w → NumberIs stop at before (c ∷ cs) w
-number_longer stop at c before cs NoNumber p = tt
-number_longer stop at c before cs (Is n k) p =
+number_longer : (stop at c : ℕ) (before cs : List ℕ) (w : Option Number) → NumberIs stop (at + 1) (before ++ c ∷ []) cs w → NumberIs stop at before (c ∷ cs) w
+number_longer stop at c before cs None p = tt
+number_longer stop at c before cs (Some w) p =
     let q = p.4 in
     (c ∷ p.0, p.1, ap (λ (l : List ℕ). c ∷ l) p.2, p.3 ∙ append_assoc before (c ∷ []) p.0, omega arith)
 
@@ -73,7 +71,7 @@ unfolding read_digits
 digits_sound stop n at [] h = tt
 digits_sound stop n at (c ∷ cs) h = by_byte (λ l. digits_sound stop (n * 10 + (c - digit_zero)) (at + 1) cs l)
   where
-    P : Number → Type 0
+    P : Option Number → Type 0
     P w = NumberIs stop at (decimal n) (c ∷ cs) w
 
     digit : digit_zero ≤ c → c ≤ digit_nine → (0 < n * 10 + (c - digit_zero) → NumberIs stop (at + 1) (decimal (n * 10 + (c - digit_zero))) cs (read_digits stop (n * 10 + (c - digit_zero)) (at + 1) cs)) → P (read_digits stop (n * 10 + (c - digit_zero)) (at + 1) cs)
@@ -83,7 +81,7 @@ digits_sound stop n at (c ∷ cs) h = by_byte (λ l. digits_sound stop (n * 10 +
         number_longer stop at c (decimal n) cs (read_digits stop (n * 10 + (c - digit_zero)) (at + 1) cs) (rw s at (ih (omega arith)))
 
     by_byte : (0 < n * 10 + (c - digit_zero) → NumberIs stop (at + 1) (decimal (n * 10 + (c - digit_zero))) cs (read_digits stop (n * 10 + (c - digit_zero)) (at + 1) cs))
-        → P (cond (eqb c stop) (Is n (at + 1)) (cond (ltb c digit_zero) NoNumber (cond (ltb digit_nine c) NoNumber (read_digits stop (n * 10 + (c - digit_zero)) (at + 1) cs))))
+        → P (cond (eqb c stop) (is n (at + 1)) (cond (ltb c digit_zero) None (cond (ltb digit_nine c) None (read_digits stop (n * 10 + (c - digit_zero)) (at + 1) cs))))
     by_byte ih = cond_case P (eqb c stop) _ _
         (λ e. ([], cs, ap (λ (x : ℕ). x ∷ cs) (eqb-true c stop e), sym (append-nil (decimal n)), omega arith))
         (λ e. cond_case P (ltb c digit_zero) _ _ (λ g. tt)
@@ -94,7 +92,7 @@ zero_sound : (stop at : ℕ) (xs : List ℕ) → NumberIs stop at (digit_zero �
 unfolding read_zero
 zero_sound stop at [] = tt
 zero_sound stop at (c ∷ cs) =
-    cond_case (NumberIs stop at (digit_zero ∷ []) (c ∷ cs)) (eqb c stop) (Is 0 (at + 1)) NoNumber
+    cond_case (NumberIs stop at (digit_zero ∷ []) (c ∷ cs)) (eqb c stop) (is 0 (at + 1)) None
     (λ e. ([], cs, ap (λ (x : ℕ). x ∷ cs) (eqb-true c stop e), decimal_digit 0 (omega arith), omega arith))
     (λ e. tt)
 
@@ -107,7 +105,7 @@ first_sound stop c at cs not_zero not_stop =
     (λ f. cond_case P (ltb digit_nine c) _ _ (λ g. tt)
     (λ g. digit (ltb-false c digit_zero f) (ltb-false digit_nine c g))))
   where
-    P : Number → Type 0
+    P : Option Number → Type 0
     P w = NumberIs stop at [] (c ∷ cs) w
 
     some : (m : ℕ) → (m ≡ 0 → ⊥) → 0 < 0 * 10 + m
@@ -130,27 +128,27 @@ number_sound stop at (c ∷ cs) =
     (λ e. cond_case (NumberIs stop at [] (c ∷ cs)) (eqb c stop) _ _ (λ f. tt) (λ f. first_sound stop c at cs (eqb-false c digit_zero e) (eqb-false c stop f)))
 
 -- within the bound too
-abbrev BoundedIs : ℕ → ℕ → List ℕ → Number → Type 0
-BoundedIs stop at xs NoNumber = Unit {0}
-BoundedIs stop at xs (Is n k) = NumberIs stop at [] xs (Is n k) × (n ≤ 2 ^ 63)
+abbrev BoundedIs : ℕ → ℕ → List ℕ → Option Number → Type 0
+BoundedIs stop at xs None = Unit {0}
+BoundedIs stop at xs (Some w) = NumberIs stop at [] xs (Some w) × (w.value ≤ 2 ^ 63)
 
-bounded_sound : (stop at : ℕ) (xs : List ℕ) (w : Number) → NumberIs stop at [] xs w → BoundedIs stop at xs (bounded w)
-bounded_sound stop at xs NoNumber p = tt
-bounded_sound stop at xs (Is n k) p = cond_case (BoundedIs stop at xs) (leb n (2 ^ 63)) (Is n k) NoNumber (λ e. (p, leb-true n (2 ^ 63) e)) (λ e. tt)
+bounded_sound : (stop at : ℕ) (xs : List ℕ) (w : Option Number) → NumberIs stop at [] xs w → BoundedIs stop at xs (bounded w)
+bounded_sound stop at xs None p = tt
+bounded_sound stop at xs (Some w) p = cond_case (BoundedIs stop at xs) (leb w.value (2 ^ 63)) (Some w) None (λ e. (p, leb-true w.value (2 ^ 63) e)) (λ e. tt)
 
 -- ---- strings
 
 -- xs begin with the encoding of a string, whose content lies from a to b
-abbrev pub StringIs : ℕ → List ℕ → ByteString → Type 0
-StringIs at xs NoString = Unit {0}
-StringIs at xs (Content a b) = (k r : List ℕ) × (xs ≡ encode_string k ++ r) × (a ≡ content_start at k) × (b ≡ at + length (encode_string k))
+abbrev pub StringIs : ℕ → List ℕ → Option Part → Type 0
+StringIs at xs None = Unit {0}
+StringIs at xs (Some w) = (k r : List ℕ) × (xs ≡ encode_string k ++ r) × (w.start ≡ content_start at k) × (w.end ≡ at + length (encode_string k))
 
 take_drop : (n : ℕ) (l : List ℕ) → take n l ++ drop n l ≡ l
 take_drop zero l = refl
 take_drop (suc n) [] = refl
 take_drop (suc n) (x ∷ l) = ap (λ (m : List ℕ). x ∷ m) (take_drop n l)
 
-string_made : (at n k : ℕ) (xs : List ℕ) → NumberIs colon at [] xs (Is n k) → n ≤ at + length xs - k → StringIs at xs (Content k (k + n))
+string_made : (at n k : ℕ) (xs : List ℕ) → NumberIs colon at [] xs (is n k) → n ≤ at + length xs - k → StringIs at xs (part k (k + n))
 string_made at n k xs p h =
     let ds = p.0 in
     let r = p.1 in
@@ -169,11 +167,11 @@ string_made at n k xs p h =
       rw e (omega arith),
     )
 
-content_sound : (at : ℕ) (xs : List ℕ) (w : Number) → NumberIs colon at [] xs w → StringIs at xs (content_in (at + length xs) w)
-content_sound at xs NoNumber p = tt
-content_sound at xs (Is n k) p =
-    cond_case (StringIs at xs) (leb n (at + length xs - k)) (Content k (k + n)) NoString
-    (λ e. string_made at n k xs p (leb-true n (at + length xs - k) e)) (λ e. tt)
+content_sound : (at : ℕ) (xs : List ℕ) (w : Option Number) → NumberIs colon at [] xs w → StringIs at xs (content_in (at + length xs) w)
+content_sound at xs None p = tt
+content_sound at xs (Some w) p =
+    cond_case (StringIs at xs) (leb w.value (at + length xs - w.next)) (part w.next (w.next + w.value)) None
+    (λ e. string_made at w.value w.next xs p (leb-true w.value (at + length xs - w.next) e)) (λ e. tt)
 
 -- what is read as a string is one
 pub string_sound : (at : ℕ) (xs : List ℕ) → StringIs at xs (read_string at xs)
@@ -181,31 +179,31 @@ string_sound at xs = content_sound at xs (read_number colon at xs) (number_sound
 
 -- ---- integers, past the `i`
 
-abbrev IntegerIs : ℕ → List ℕ → Integer → Type 0
-IntegerIs at xs NoInteger = Unit {0}
-IntegerIs at xs (Whole minus n k) =
-    (r : List ℕ) × (xs ≡ sign minus ++ (decimal n ++ letter_e ∷ r)) × IntegerFits minus n × (k ≡ at + length (sign minus) + length (decimal n) + 1)
+abbrev IntegerIs : ℕ → List ℕ → Option Integer → Type 0
+IntegerIs at xs None = Unit {0}
+IntegerIs at xs (Some w) =
+    (r : List ℕ) × (xs ≡ sign w.minus ++ (decimal w.size ++ letter_e ∷ r)) × IntegerFits w.minus w.size × (w.next ≡ at + length (sign w.minus) + length (decimal w.size) + 1)
 
-negative_sound : (at : ℕ) (cs : List ℕ) (w : Number) → BoundedIs letter_e (at + 1) cs w → IntegerIs at (minus_sign ∷ cs) (negative w)
-negative_sound at cs NoNumber p = tt
-negative_sound at cs (Is n k) b =
+negative_sound : (at : ℕ) (cs : List ℕ) (w : Option Number) → BoundedIs letter_e (at + 1) cs w → IntegerIs at (minus_sign ∷ cs) (negative w)
+negative_sound at cs None p = tt
+negative_sound at cs (Some w) b =
     let p = b.0 in
-    let d : p.0 ≡ decimal n = sym p.3 in
-    let q : k ≡ at + 1 + length (decimal n) + 1 = rw d at p.4 in
-    cond_case (IntegerIs at (minus_sign ∷ cs)) (eqb n 0) NoInteger (Whole true n k) (λ e. tt)
-    (λ e. (p.1, ap (λ (l : List ℕ). minus_sign ∷ l) (rw d at p.2), (some n (eqb-false n 0 e), b.1), omega arith))
+    let d : p.0 ≡ decimal w.value = sym p.3 in
+    let q : w.next ≡ at + 1 + length (decimal w.value) + 1 = rw d at p.4 in
+    cond_case (IntegerIs at (minus_sign ∷ cs)) (eqb w.value 0) None (whole true w.value w.next) (λ e. tt)
+    (λ e. (p.1, ap (λ (l : List ℕ). minus_sign ∷ l) (rw d at p.2), (some w.value (eqb-false w.value 0 e), b.1), omega arith))
   where
     some : (n : ℕ) → (n ≡ 0 → ⊥) → 0 < n
     some n f = omega arith
 
-positive_sound : (at : ℕ) (xs : List ℕ) (w : Number) → BoundedIs letter_e at xs w → IntegerIs at xs (positive w)
-positive_sound at xs NoNumber p = tt
-positive_sound at xs (Is n k) b =
+positive_sound : (at : ℕ) (xs : List ℕ) (w : Option Number) → BoundedIs letter_e at xs w → IntegerIs at xs (positive w)
+positive_sound at xs None p = tt
+positive_sound at xs (Some w) b =
     let p = b.0 in
-    let d : p.0 ≡ decimal n = sym p.3 in
-    let q : k ≡ at + length (decimal n) + 1 = rw d at p.4 in
-    cond_case (IntegerIs at xs) (ltb n (2 ^ 63)) (Whole false n k) NoInteger
-    (λ e. (p.1, rw d at p.2, ltb-true n (2 ^ 63) e, omega arith)) (λ e. tt)
+    let d : p.0 ≡ decimal w.value = sym p.3 in
+    let q : w.next ≡ at + length (decimal w.value) + 1 = rw d at p.4 in
+    cond_case (IntegerIs at xs) (ltb w.value (2 ^ 63)) (whole false w.value w.next) None
+    (λ e. (p.1, rw d at p.2, ltb-true w.value (2 ^ 63) e, omega arith)) (λ e. tt)
 
 signed_sound : (at : ℕ) (xs : List ℕ) → IntegerIs at xs (read_signed at xs)
 unfolding read_signed
@@ -229,42 +227,42 @@ module _ {A : Type 0} (enc : A → List ℕ) (ok : A → Type 0) where
     pub ends : k ≡ at + length (enc it)
 
   -- what the walk says
-  abbrev pub WalkedIs : ℕ → List ℕ → Walked → Type 0
-  WalkedIs at xs Broken = Unit {0}
-  WalkedIs at xs TooDeep = Unit {0}
-  WalkedIs at xs (Past k) = Begins at xs k
+  abbrev pub WalkedIs : ℕ → List ℕ → Result ℕ Amiss → Type 0
+  WalkedIs at xs (Err Broken) = Unit {0}
+  WalkedIs at xs (Err TooDeep) = Unit {0}
+  WalkedIs at xs (Ok k) = Begins at xs k
 
   -- what is left of the bytes
   pub rest_is : (at : ℕ) (xs : List ℕ) (k : ℕ) (b : Begins at xs k) → drop (k - at) xs ≡ b.rest
   rest_is at xs k b = rw (b.ends, b.bytes) (past_part at (enc b.it) b.rest)
 
 -- and for values, items, entries
-abbrev pub ValueIs : ℕ → ℕ → List ℕ → Walked → Type 0
+abbrev pub ValueIs : ℕ → ℕ → List ℕ → Result ℕ Amiss → Type 0
 ValueIs l = WalkedIs encode (λ v. Valid v l)
 
-abbrev ItemsIs : ℕ → ℕ → List ℕ → Walked → Type 0
+abbrev ItemsIs : ℕ → ℕ → List ℕ → Result ℕ Amiss → Type 0
 ItemsIs l = WalkedIs encode_items (λ vs. ItemsValid vs l)
 
-abbrev EntriesIs : ℕ → KeyBefore → ℕ → List ℕ → Walked → Type 0
+abbrev EntriesIs : ℕ → KeyBefore → ℕ → List ℕ → Result ℕ Amiss → Type 0
 EntriesIs l j = WalkedIs encode_entries (λ es. EntriesValid es j l)
 
 -- an `e` is the encoding of none
 module _ {A : Type 0} (enc : A → List ℕ) (ok : A → Type 0) (no : A) (is_e : enc no ≡ letter_e ∷ []) (fine : ok no) where
-  end_sound : (at : ℕ) (xs : List ℕ) (w : Walked) → WalkedIs enc ok at xs w → WalkedIs enc ok at xs (end_or at xs w)
+  end_sound : (at : ℕ) (xs : List ℕ) (w : Result ℕ Amiss) → WalkedIs enc ok at xs w → WalkedIs enc ok at xs (end_or at xs w)
   unfolding end_or
   end_sound at [] w p = tt
   end_sound at (c ∷ cs) w p =
-      cond_case (WalkedIs enc ok at (c ∷ cs)) (eqb c letter_e) (Past (at + 1)) w
+      cond_case (WalkedIs enc ok at (c ∷ cs)) (eqb c letter_e) (Ok (at + 1)) w
       (λ e. record { it = no; rest = cs; bytes = rw (is_e, eqb-true c letter_e e) refl; valid = fine; ends = rw is_e refl })
       (λ e. p)
 
 -- an item, then the rest of a list
 module _ (l at : ℕ) (xs : List ℕ) where
-  items_joined : (k : ℕ) (b : Begins encode (λ v. Valid v l) at xs k) (w : Walked) → ItemsIs l k (drop (k - at) xs) w → ItemsIs l at xs w
+  items_joined : (k : ℕ) (b : Begins encode (λ v. Valid v l) at xs k) (w : Result ℕ Amiss) → ItemsIs l k (drop (k - at) xs) w → ItemsIs l at xs w
   unfolding encode Valid
-  items_joined k b Broken p = tt
-  items_joined k b TooDeep p = tt
-  items_joined k b (Past m) p =
+  items_joined k b (Err Broken) p = tt
+  items_joined k b (Err TooDeep) p = tt
+  items_joined k b (Ok m) p =
       let z : drop (k - at) xs ≡ b.rest = rest_is encode (λ v. Valid v l) at xs k b in
       let q = b.ends in
       let o = p.ends in
@@ -277,10 +275,10 @@ module _ (l at : ℕ) (xs : List ℕ) where
         ends = omega arith;
       }
 
-  items_onward : (w : Walked) (go : ℕ → Walked) → ValueIs l at xs w → ((k : ℕ) → ItemsIs l k (drop (k - at) xs) (go k)) → ItemsIs l at xs (onward w go)
-  items_onward Broken go p h = tt
-  items_onward TooDeep go p h = tt
-  items_onward (Past k) go p h = items_joined k p (go k) (h k)
+  items_onward : (w : Result ℕ Amiss) (go : ℕ → Result ℕ Amiss) → ValueIs l at xs w → ((k : ℕ) → ItemsIs l k (drop (k - at) xs) (go k)) → ItemsIs l at xs (onward w go)
+  items_onward (Err Broken) go p h = tt
+  items_onward (Err TooDeep) go p h = tt
+  items_onward (Ok k) go p h = items_joined k p (go k) (h k)
 
 no_items_lem : encode_items no_items ≡ letter_e ∷ []
 unfolding encode
@@ -298,15 +296,15 @@ items_sound l h (suc f) at xs =
     (items_onward l at xs (walk_value l at xs) (λ k. walk_items (walk_value l) f k (drop (k - at) xs)) (h at xs) (λ k. items_sound l h f k (drop (k - at) xs)))
 
 -- a key
-abbrev pub KeyIs : KeyBefore → ℕ → List ℕ → ByteString → Type 0
-KeyIs j at xs NoString = Unit {0}
-KeyIs j at xs (Content a b) = (k r : List ℕ) × (xs ≡ encode_string k ++ r) × (ascends j k ≡ true) × (between at xs a b ≡ k) × (b ≡ at + length (encode_string k))
+abbrev pub KeyIs : KeyBefore → ℕ → List ℕ → Option Part → Type 0
+KeyIs j at xs None = Unit {0}
+KeyIs j at xs (Some w) = (k r : List ℕ) × (xs ≡ encode_string k ++ r) × (ascends j k ≡ true) × (between at xs w.start w.end ≡ k) × (w.end ≡ at + length (encode_string k))
 
-in_order_sound : (j : KeyBefore) (at : ℕ) (xs : List ℕ) (w : ByteString) → StringIs at xs w → KeyIs j at xs (in_order j at xs w)
-in_order_sound j at xs NoString p = tt
-in_order_sound j at xs (Content a b) p =
-    let s : between at xs a b ≡ p.0 = rw (p.2, p.3, p.4) (content_bytes at p.0 p.1) in
-    cond_case (KeyIs j at xs) (ascends j (between at xs a b)) (Content a b) NoString
+in_order_sound : (j : KeyBefore) (at : ℕ) (xs : List ℕ) (w : Option Part) → StringIs at xs w → KeyIs j at xs (in_order j at xs w)
+in_order_sound j at xs None p = tt
+in_order_sound j at xs (Some w) p =
+    let s : between at xs w.start w.end ≡ p.0 = rw (p.2, p.3, p.4) (content_bytes at p.0 p.1) in
+    cond_case (KeyIs j at xs) (ascends j (between at xs w.start w.end)) (Some w) None
     (λ e. (p.0, p.1, p.2, rw s at e, s, p.4)) (λ e. tt)
 
 -- what is read as a key is one, and ascends
@@ -316,11 +314,11 @@ key_sound j at xs = in_order_sound j at xs (read_string at xs) (string_sound at 
 -- a key and its value, then the rest of a dictionary
 module _ (l : ℕ) (j : KeyBefore) (at : ℕ) (xs : List ℕ) where
   module _ (k r : List ℕ) (e : xs ≡ encode_string k ++ r) (a : ascends j k ≡ true) where
-    entries_joined : (m : ℕ) (b : Begins encode (λ v. Valid v l) (at + length (encode_string k)) r m) (w : Walked) → EntriesIs l (after k) m (drop (m - at) xs) w → EntriesIs l j at xs w
+    entries_joined : (m : ℕ) (b : Begins encode (λ v. Valid v l) (at + length (encode_string k)) r m) (w : Result ℕ Amiss) → EntriesIs l (after k) m (drop (m - at) xs) w → EntriesIs l j at xs w
     unfolding encode Valid
-    entries_joined m b Broken q = tt
-    entries_joined m b TooDeep q = tt
-    entries_joined m b (Past n) q =
+    entries_joined m b (Err Broken) q = tt
+    entries_joined m b (Err TooDeep) q = tt
+    entries_joined m b (Ok n) q =
         let v = b.it in
         let x = b.ends in
         let y = q.ends in
@@ -338,16 +336,16 @@ module _ (l : ℕ) (j : KeyBefore) (at : ℕ) (xs : List ℕ) where
           ends = omega arith;
         }
 
-    entries_onward : (w : Walked) (go : ℕ → Walked) → ValueIs l (at + length (encode_string k)) r w → ((m : ℕ) → EntriesIs l (after k) m (drop (m - at) xs) (go m)) → EntriesIs l j at xs (onward w go)
-    entries_onward Broken go q f = tt
-    entries_onward TooDeep go q f = tt
-    entries_onward (Past m) go q f = entries_joined m q (go m) (f m)
+    entries_onward : (w : Result ℕ Amiss) (go : ℕ → Result ℕ Amiss) → ValueIs l (at + length (encode_string k)) r w → ((m : ℕ) → EntriesIs l (after k) m (drop (m - at) xs) (go m)) → EntriesIs l j at xs (onward w go)
+    entries_onward (Err Broken) go q f = tt
+    entries_onward (Err TooDeep) go q f = tt
+    entries_onward (Ok m) go q f = entries_joined m q (go m) (f m)
 
-  entries_with_key : (value : ℕ → List ℕ → Walked) (more : KeyBefore → ℕ → List ℕ → Walked) (w : ByteString) → KeyIs j at xs w
+  entries_with_key : (value : ℕ → List ℕ → Result ℕ Amiss) (more : KeyBefore → ℕ → List ℕ → Result ℕ Amiss) (w : Option Part) → KeyIs j at xs w
       → ((i : ℕ) (ys : List ℕ) → ValueIs l i ys (value i ys)) → ((q : KeyBefore) (i : ℕ) (ys : List ℕ) → EntriesIs l q i ys (more q i ys))
       → EntriesIs l j at xs (with_key w (λ a b. onward (value b (drop (b - at) xs)) (λ m. more (after (between at xs a b)) m (drop (m - at) xs))))
-  entries_with_key value more NoString p hv hm = tt
-  entries_with_key value more (Content a b) p hv hm =
+  entries_with_key value more None p hv hm = tt
+  entries_with_key value more (Some w) p hv hm =
       let k = p.0 in
       let r = p.1 in
       let z : drop (at + length (encode_string k) - at) xs ≡ r = rw p.2 (past_part at (encode_string k) r) in
@@ -370,31 +368,31 @@ entries_sound l h (suc f) j at xs =
     (entries_with_key l j at xs (walk_value l) (walk_entries (walk_value l) f) (read_key j at xs) (key_sound j at xs) h (λ q i ys. entries_sound l h f q i ys))
 
 -- one value
-integer_value : (l at : ℕ) (cs : List ℕ) (w : Integer) → IntegerIs (at + 1) cs w → ValueIs l at (letter_i ∷ cs) (past_integer w)
+integer_value : (l at : ℕ) (cs : List ℕ) (w : Option Integer) → IntegerIs (at + 1) cs w → ValueIs l at (letter_i ∷ cs) (past_integer w)
 unfolding Valid
-integer_value l at cs NoInteger p = tt
-integer_value l at cs (Whole minus n k) p =
+integer_value l at cs None p = tt
+integer_value l at cs (Some w) p =
     let q = p.3 in
-    record { it = integer minus n; rest = p.0; bytes = ap (λ (t : List ℕ). letter_i ∷ t) p.1 ∙ sym (integer_bytes minus n p.0); valid = p.2; ends = omega (arith, integer_length minus n) }
+    record { it = integer w.minus w.size; rest = p.0; bytes = ap (λ (t : List ℕ). letter_i ∷ t) p.1 ∙ sym (integer_bytes w.minus w.size p.0); valid = p.2; ends = omega (arith, integer_length w.minus w.size) }
 
-string_value : (l at : ℕ) (xs : List ℕ) (w : ByteString) → StringIs at xs w → ValueIs l at xs (past_string w)
+string_value : (l at : ℕ) (xs : List ℕ) (w : Option Part) → StringIs at xs w → ValueIs l at xs (past_string w)
 unfolding encode Valid
-string_value l at xs NoString p = tt
-string_value l at xs (Content a b) p = record { it = string p.0; rest = p.1; bytes = p.2; valid = tt; ends = p.4 }
+string_value l at xs None p = tt
+string_value l at xs (Some w) p = record { it = string p.0; rest = p.1; bytes = p.2; valid = tt; ends = p.4 }
 
-list_value : (l at : ℕ) (cs : List ℕ) (w : Walked) → ItemsIs l (at + 1) cs w → ValueIs (suc l) at (letter_l ∷ cs) w
+list_value : (l at : ℕ) (cs : List ℕ) (w : Result ℕ Amiss) → ItemsIs l (at + 1) cs w → ValueIs (suc l) at (letter_l ∷ cs) w
 unfolding encode Valid
-list_value l at cs Broken p = tt
-list_value l at cs TooDeep p = tt
-list_value l at cs (Past k) p = let q = p.ends in record { it = list p.it; rest = p.rest; bytes = ap (λ (t : List ℕ). letter_l ∷ t) p.bytes; valid = p.valid; ends = omega arith }
+list_value l at cs (Err Broken) p = tt
+list_value l at cs (Err TooDeep) p = tt
+list_value l at cs (Ok k) p = let q = p.ends in record { it = list p.it; rest = p.rest; bytes = ap (λ (t : List ℕ). letter_l ∷ t) p.bytes; valid = p.valid; ends = omega arith }
 
-dictionary_value : (l at : ℕ) (cs : List ℕ) (w : Walked) → EntriesIs l none (at + 1) cs w → ValueIs (suc l) at (letter_d ∷ cs) w
+dictionary_value : (l at : ℕ) (cs : List ℕ) (w : Result ℕ Amiss) → EntriesIs l none (at + 1) cs w → ValueIs (suc l) at (letter_d ∷ cs) w
 unfolding encode Valid
-dictionary_value l at cs Broken p = tt
-dictionary_value l at cs TooDeep p = tt
-dictionary_value l at cs (Past k) p = let q = p.ends in record { it = dictionary p.it; rest = p.rest; bytes = ap (λ (t : List ℕ). letter_d ∷ t) p.bytes; valid = p.valid; ends = omega arith }
+dictionary_value l at cs (Err Broken) p = tt
+dictionary_value l at cs (Err TooDeep) p = tt
+dictionary_value l at cs (Ok k) p = let q = p.ends in record { it = dictionary p.it; rest = p.rest; bytes = ap (λ (t : List ℕ). letter_d ∷ t) p.bytes; valid = p.valid; ends = omega arith }
 
-first_byte_sound : (l at : ℕ) (xs : List ℕ) (ls ds : Walked) → ((cs : List ℕ) → xs ≡ letter_l ∷ cs → ValueIs l at (letter_l ∷ cs) ls) → ((cs : List ℕ) → xs ≡ letter_d ∷ cs → ValueIs l at (letter_d ∷ cs) ds)
+first_byte_sound : (l at : ℕ) (xs : List ℕ) (ls ds : Result ℕ Amiss) → ((cs : List ℕ) → xs ≡ letter_l ∷ cs → ValueIs l at (letter_l ∷ cs) ls) → ((cs : List ℕ) → xs ≡ letter_d ∷ cs → ValueIs l at (letter_d ∷ cs) ds)
     → ValueIs l at xs (by_first at xs ls ds)
 unfolding by_first
 first_byte_sound l at [] ls ds p q = tt
@@ -410,12 +408,12 @@ first_byte_sound l at (c ∷ cs) ls ds p q =
 -- what the walk says of a value, in each of its cases
 pub value_sound : (l at : ℕ) (xs : List ℕ) → ValueIs l at xs (walk_value l at xs)
 unfolding walk_value
-value_sound zero at xs = first_byte_sound 0 at xs TooDeep TooDeep (λ cs e. tt) (λ cs e. tt)
+value_sound zero at xs = first_byte_sound 0 at xs (Err TooDeep) (Err TooDeep) (λ cs e. tt) (λ cs e. tt)
 value_sound (suc l) at xs =
     first_byte_sound (suc l) at xs _ _
     (λ cs e. rw e (list_value l at cs (walk_list (walk_value l) (at + 1) cs) (items_sound l (value_sound l) (suc (length cs)) (at + 1) cs)))
     (λ cs e. rw e (dictionary_value l at cs (walk_dictionary (walk_value l) (at + 1) cs) (entries_sound l (value_sound l) (suc (length cs)) none (at + 1) cs)))
 
 -- what the walk goes over is the encoding of a valid value
-pub sound : (l at : ℕ) (xs : List ℕ) (k : ℕ) → walk_value l at xs ≡ Past k → Begins encode (λ v. Valid v l) at xs k
+pub sound : (l at : ℕ) (xs : List ℕ) (k : ℕ) → walk_value l at xs ≡ Ok k → Begins encode (λ v. Valid v l) at xs k
 sound l at xs k e = rw e at (value_sound l at xs)

@@ -1,14 +1,14 @@
 -- 01, "The torrent", and the numbers 20 and 21: one dictionary in strict bencoding and nothing after it. What the numbers mean is
 -- said by `Encoded` and `TooDeepFirst`, from the grammar alone; `strictness` is how the number is found, by the walk.
 -- Assumes nothing.
-use Rattle.std.specs.Prelude.{◌≡◌, cond, List, [], ◌∷◌, ◌++◌, ℕ, length, eqb}
+use Rattle.bencode.specs.declared.walk.Amiss.{Amiss}
+use Rattle.bencode.specs.declared.walk.Amiss.TheVariants.{Broken, TooDeep}
+use Rattle.std.specs.Prelude.{◌≡◌, cond, List, [], ◌∷◌, ◌++◌, ℕ, length, eqb, Err, Ok, Result}
 use Rattle.limits.specs.Limits.{max_levels}
 use Rattle.octets.specs.Octets.{Octets}
 use Rattle.numbers.specs.Numbers.{not_strict, nested_too_deeply}
 use Rattle.bencode.specs.Grammar.{letter_d, Entries, dictionary, encode, Valid}
 use Rattle.bencode.specs.Walk.{walk_value}
-use Rattle.bencode.specs.declared.walk.Walked.{Walked}
-use Rattle.bencode.specs.declared.walk.Walked.TheVariants.{Past, Broken, TooDeep}
 
 -- s is the encoding of a dictionary that is valid with so many levels
 abbrev pub Encoded : ℕ → List ℕ → Type 0
@@ -30,10 +30,10 @@ pub record TooDeepFirst (s : List ℕ) : Type 0 where
   pub deeper_can : CanGoOn levels (begun ++ byte ∷ [])
 
 -- the number, from what the walk says of so many bytes
-abbrev pub whole_walk : ℕ → Walked → ℕ
-whole_walk size Broken = not_strict
-whole_walk size TooDeep = nested_too_deeply
-whole_walk size (Past k) = cond (eqb k size) 0 not_strict
+abbrev pub whole_walk : ℕ → Result ℕ Amiss → ℕ
+whole_walk size (Err Broken) = not_strict
+whole_walk size (Err TooDeep) = nested_too_deeply
+whole_walk size (Ok k) = cond (eqb k size) 0 not_strict
 
 -- the walk over a dictionary has to end where the bytes end
 unfoldable pub strictness : List ℕ → ℕ

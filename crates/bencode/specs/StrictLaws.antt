@@ -1,7 +1,9 @@
 -- What the number says, from the grammar alone: 0 exactly for the encodings of valid dictionaries, 21 exactly where the depth is wrong
 -- before anything else, 20 for all other bytes.
 -- Assumes nothing.
-use Rattle.std.specs.Prelude.{◌≡◌, refl, ◌⊎◌, Bool, true, false, cond, List, [], ◌∷◌, ◌++◌, ℕ, zero, suc, ◌+◌, ◌<◌, length, drop, get_or, eqb}
+use Rattle.bencode.specs.declared.walk.Amiss.{Amiss}
+use Rattle.bencode.specs.declared.walk.Amiss.TheVariants.{Broken, TooDeep}
+use Rattle.std.specs.Prelude.{◌≡◌, refl, ◌⊎◌, Bool, true, false, cond, List, [], ◌∷◌, ◌++◌, ℕ, zero, suc, ◌+◌, ◌<◌, length, drop, get_or, eqb, Err, Ok, Result}
 use Rattle.std.proofs.Common.{sym, ap, ◌∙◌, inl, inr, append_assoc, append-nil, arith, length-append, eq-eqb, eqb-true}
 use Rattle.std.proofs.Math.ListN.{get_or-append}
 use Rattle.octets.specs.Octets.{Octets}
@@ -15,20 +17,18 @@ use Rattle.bencode.specs.CompleteLaws.{complete, dictionary_bytes}
 use Rattle.bencode.specs.SoundLaws.{sound}
 use Rattle.bencode.specs.UniqueLaws.{not_a_string, other_letter, first_same, behind_same}
 use Rattle.bencode.specs.DepthLaws.{Stem, in_list, in_dictionary, begun, StemValid, Opening, OpensTooDeep, deep_complete, deep_sound, fits_or_opens, filled, entries_then, closing, filled_bytes, filled_valid, filled_deeper}
-use Rattle.bencode.specs.declared.walk.Walked.{Walked}
-use Rattle.bencode.specs.declared.walk.Walked.TheVariants.{Past, Broken, TooDeep}
 
 -- ---- the walk of a dictionary's bytes
 
-whole_of : (cs : List ℕ) (w : Walked) → walk_value max_levels 0 (letter_d ∷ cs) ≡ w → strictness (letter_d ∷ cs) ≡ whole_walk (length (letter_d ∷ cs)) w
+whole_of : (cs : List ℕ) (w : Result ℕ Amiss) → walk_value max_levels 0 (letter_d ∷ cs) ≡ w → strictness (letter_d ∷ cs) ≡ whole_walk (length (letter_d ∷ cs)) w
 unfolding strictness
 whole_of cs w e = ap (whole_walk (length (letter_d ∷ cs))) e
 
-encoded_walk : (l : ℕ) (s : List ℕ) → Encoded l s → walk_value l 0 s ≡ Past (length s)
+encoded_walk : (l : ℕ) (s : List ℕ) → Encoded l s → walk_value l 0 s ≡ Ok (length s)
 encoded_walk l s p =
     let v = dictionary p.0 in
     let o : 0 + length (encode v) ≡ length (encode v) = omega arith in
-    rw p.2 (rw append-nil at (complete v l 0 [] p.1) ∙ ap Past o)
+    rw p.2 (rw append-nil at (complete v l 0 [] p.1) ∙ ap Ok o)
 
 -- ---- 0
 
@@ -38,20 +38,20 @@ unfolding encode
 taken s p =
     let cs = encode_entries p.0 in
     rw p.2
-    (whole_of cs (Past (length (letter_d ∷ cs))) (encoded_walk max_levels (letter_d ∷ cs) (p.0, p.1, refl))
+    (whole_of cs (Ok (length (letter_d ∷ cs))) (encoded_walk max_levels (letter_d ∷ cs) (p.0, p.1, refl))
     ∙ simp (eq-eqb (length (letter_d ∷ cs)) (length (letter_d ∷ cs)) refl))
 
 no_rest : (a r : List ℕ) → length (a ++ r) ≡ length a → a ++ r ≡ a
 no_rest a [] e = append-nil a
 no_rest a (x ∷ r) e = absurd (omega (arith, length-append a (x ∷ r)))
 
-zero_past : (n : ℕ) (w : Walked) → whole_walk n w ≡ 0 → w ≡ Past n
-zero_past n Broken e = absurd (omega arith)
-zero_past n TooDeep e = absurd (omega arith)
-zero_past n (Past k) e = by_end (eqb k n) refl e
+zero_past : (n : ℕ) (w : Result ℕ Amiss) → whole_walk n w ≡ 0 → w ≡ Ok n
+zero_past n (Err Broken) e = absurd (omega arith)
+zero_past n (Err TooDeep) e = absurd (omega arith)
+zero_past n (Ok k) e = by_end (eqb k n) refl e
   where
-    by_end : (b : Bool) → eqb k n ≡ b → ◌≡◌ {A = ℕ} (cond b 0 not_strict) 0 → Past k ≡ Past n
-    by_end true q f = ap Past (eqb-true k n q)
+    by_end : (b : Bool) → eqb k n ≡ b → ◌≡◌ {A = ℕ} (cond b 0 not_strict) 0 → ◌≡◌ {A = Result ℕ Amiss} (Ok k) (Ok n)
+    by_end true q f = ap Ok (eqb-true k n q)
     by_end false q f = absurd (omega arith)
 
 -- a value whose encoding begins with a `d` is a dictionary
@@ -143,16 +143,16 @@ stem_deeper {l} st cs x c e h (inr o) =
 
 stem_no_further : {l : ℕ} (st : Stem l) (c : ℕ) (x : List ℕ) → StemValid st → Opening c → Encoded l (begun st ++ c ∷ x) → ⊥
 stem_no_further {l} st c x h o p =
-    let a : Past (length (begun st ++ c ∷ x)) ≡ TooDeep = sym (encoded_walk l (begun st ++ c ∷ x) p) ∙ deep_complete st 0 c x h o in
+    let a : Ok (length (begun st ++ c ∷ x)) ≡ (Err TooDeep) = sym (encoded_walk l (begun st ++ c ∷ x) p) ∙ deep_complete st 0 c x h o in
     let z : ◌≡◌ {A = ℕ} 0 1 = cc in
     omega arith
 
-deep_walk : (n : ℕ) (w : Walked) → whole_walk n w ≡ nested_too_deeply → w ≡ TooDeep
-deep_walk n Broken e = absurd (omega arith)
-deep_walk n TooDeep e = refl
-deep_walk n (Past k) e = by_end (eqb k n) e
+deep_walk : (n : ℕ) (w : Result ℕ Amiss) → whole_walk n w ≡ nested_too_deeply → w ≡ (Err TooDeep)
+deep_walk n (Err Broken) e = absurd (omega arith)
+deep_walk n (Err TooDeep) e = refl
+deep_walk n (Ok k) e = by_end (eqb k n) e
   where
-    by_end : (b : Bool) → ◌≡◌ {A = ℕ} (cond b 0 not_strict) nested_too_deeply → Past k ≡ TooDeep
+    by_end : (b : Bool) → ◌≡◌ {A = ℕ} (cond b 0 not_strict) nested_too_deeply → Ok k ≡ (Err TooDeep)
     by_end true f = absurd (omega arith)
     by_end false f = absurd (omega arith)
 
@@ -215,8 +215,8 @@ bytes_front a b p =
 stem_whole : (st : Stem max_levels) (s cs x y : List ℕ) (c : ℕ) → letter_d ∷ cs ≡ begun st ++ x → s ≡ begun st ++ c ∷ y → StemValid st → Opening c → strictness s ≡ nested_too_deeply
 stem_whole st s cs x y c e f h o =
     let b = first_letter st cs x c y e in
-    let w : walk_value max_levels 0 (letter_d ∷ b.0) ≡ TooDeep = rw b.1 at (deep_complete st 0 c y h o) in
-    rw (f, b.1) (whole_of b.0 TooDeep w)
+    let w : walk_value max_levels 0 (letter_d ∷ b.0) ≡ (Err TooDeep) = rw b.1 at (deep_complete st 0 c y h o) in
+    rw (f, b.1) (whole_of b.0 (Err TooDeep) w)
   where
     first_letter : {l : ℕ} (st : Stem (suc l)) (cs x : List ℕ) (c : ℕ) (y : List ℕ) → letter_d ∷ cs ≡ begun st ++ x → (q : List ℕ) × (begun st ++ c ∷ y ≡ letter_d ∷ q)
     first_letter (in_list vs st) cs x c y e = unfold begun in absurd (other_letter letter_d letter_l _ _ e (λ z. omega arith))
@@ -281,12 +281,12 @@ one_of_three (c ∷ cs) = by_first (eqb c letter_d) (walk_value max_levels 0 (c 
     by_end true = inl refl
     by_end false = inr (inl refl)
 
-    by_first : (b : Bool) (w : Walked)
+    by_first : (b : Bool) (w : Result ℕ Amiss)
         → (cond b (whole_walk (length (c ∷ cs)) w) not_strict ≡ 0) ⊎ ((cond b (whole_walk (length (c ∷ cs)) w) not_strict ≡ not_strict) ⊎ (cond b (whole_walk (length (c ∷ cs)) w) not_strict ≡ nested_too_deeply))
     by_first false w = inr (inl refl)
-    by_first true Broken = inr (inl refl)
-    by_first true TooDeep = inr (inr refl)
-    by_first true (Past k) = by_end (eqb k (length (c ∷ cs)))
+    by_first true (Err Broken) = inr (inl refl)
+    by_first true (Err TooDeep) = inr (inr refl)
+    by_first true (Ok k) = by_end (eqb k (length (c ∷ cs)))
 
 -- 20 is given for all other bytes
 pub otherwise : (s : List ℕ) → (Encoded max_levels s → ⊥) → (TooDeepFirst s → ⊥) → strictness s ≡ not_strict

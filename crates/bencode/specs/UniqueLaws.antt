@@ -1,14 +1,15 @@
 -- No two values have the same encoding, and none has one that begins another's: `unique`. By both values, with what stands behind them.
 -- Assumes nothing.
-use Rattle.std.specs.Prelude.{◌≡◌, refl, Bool, true, false, List, ◌∷◌, ◌++◌, ℕ, ◌+◌, ◌<◌, length, take, drop}
+use Rattle.bencode.specs.declared.walk.Amiss.TheVariants.{Broken}
+use Rattle.bencode.specs.declared.decimal.Number.{Number}
+use Rattle.bencode.specs.Scalar.{is}
+use Rattle.std.specs.Prelude.{◌≡◌, refl, Bool, true, false, List, ◌∷◌, ◌++◌, ℕ, ◌+◌, ◌<◌, length, take, drop, Option, unwrap_or, Err, Ok}
 use Rattle.std.proofs.Common.{sym, ap, ap₂, ◌∙◌, append_assoc, arith}
 use Rattle.std.proofs.Math.Seq.{drop-append_seam, take-append_seam}
 use Rattle.bencode.specs.Grammar.{minus_sign, digit_nine, colon, letter_d, letter_e, letter_i, letter_l, Value, integer, string, list, dictionary, Items, no_items, item, Entries, no_entries, entry, decimal, sign, encode_string, encode, encode_items, encode_entries}
 use Rattle.bencode.specs.Scalar.{read_number}
 use Rattle.bencode.specs.Walk.{end_or}
 use Rattle.bencode.specs.CompleteLaws.{BeginsWithDigit, decimal_first, number_read, integer_bytes, NoEnd, string_no_end, value_no_end}
-use Rattle.bencode.specs.declared.decimal.Number.TheVariants.{Is}
-use Rattle.bencode.specs.declared.walk.Walked.TheVariants.{Past, Broken}
 
 -- ---- lists
 
@@ -31,9 +32,9 @@ rest_same a b x y e = cc
 
 decimal_unique : (stop : ℕ) → digit_nine < stop → (n m : ℕ) (r q : List ℕ) → decimal n ++ stop ∷ r ≡ decimal m ++ stop ∷ q → (n ≡ m) × (r ≡ q)
 decimal_unique stop big n m r q e =
-    let f : Is n (0 + length (decimal n) + 1) ≡ Is m (0 + length (decimal m) + 1) =
+    let f : is n (0 + length (decimal n) + 1) ≡ is m (0 + length (decimal m) + 1) =
     sym (number_read stop big 0 r n) ∙ ap (read_number stop 0) e ∙ number_read stop big 0 q m in
-    let s : n ≡ m = cc in
+    let s : n ≡ m = ap (λ (w : Option Number). (unwrap_or w (record { value = 0; next = 0 })).value) f in
     (s, rest_same stop stop r q (behind_same (decimal n) (stop ∷ r) (stop ∷ q) (rw (sym s) at e)))
 
 string_unique : (a b r q : List ℕ) → encode_string a ++ r ≡ encode_string b ++ q → (a ≡ b) × (r ≡ q)
@@ -56,7 +57,7 @@ not_a_string b r c cs h e =
 not_an_end : (e r q : List ℕ) → NoEnd e → letter_e ∷ r ≡ e ++ q → ⊥
 unfolding NoEnd end_or
 not_an_end e r q n f =
-    let g : Past (0 + 1) ≡ Broken = ap (λ (l : List ℕ). end_or 0 l Broken) f ∙ n 0 q Broken in
+    let g : Ok (0 + 1) ≡ (Err Broken) = ap (λ (l : List ℕ). end_or 0 l (Err Broken)) f ∙ n 0 q (Err Broken) in
     let z : ◌≡◌ {A = ℕ} 0 1 = cc in
     omega arith
 

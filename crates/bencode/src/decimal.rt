@@ -4,9 +4,9 @@ ghost use Rattle.bencode.specs.Scalar.{bounded, read_digits, read_zero, read_num
 
 // A number, with the position past the byte that stops it.
 #[derive(Clone, Copy)]
-pub enum Number {
-    Is { value: usize, next: usize },
-    NoNumber,
+pub struct Number {
+    pub value: usize,
+    pub next: usize,
 }
 
 // No integer's size is above 2^63, and no length of a slice.
@@ -16,67 +16,65 @@ pub const BOUND: usize = 9223372036854775808;
 const TENTH: usize = 922337203685477580;
 
 // Digits from `at` up to `stop`. A number above the bound is none, so that no product wraps.
-fn digits(bytes: &[u8], at: usize, stop: u8) -> Number
+fn digits(bytes: &[u8], at: usize, stop: u8) -> Option<Number>
     ensures { result ≡ bounded (read_digits stop 0 at (drop at bytes.now)) }
 {
-    let mut i = at;
     let mut n: usize = 0;
-    while i < bytes.len() {
+    for i in at..bytes.len() {
         let c = bytes[i];
         if c == stop {
             if n <= BOUND {
-                return Number::Is {
+                return Some(Number {
                     value: n,
                     next: i + 1,
-                };
+                });
             }
-            return Number::NoNumber;
+            return None;
         }
         if c < b'0' {
-            return Number::NoNumber;
+            return None;
         }
         if b'9' < c {
-            return Number::NoNumber;
+            return None;
         }
         if TENTH < n {
-            return Number::NoNumber;
+            return None;
         }
         n = n * 10 + (octets::wide(c) - 48);
-        i += 1;
     }
-    Number::NoNumber
+    None
 }
 
 // What follows a first digit 0: nothing but `stop`.
-fn lone_zero(bytes: &[u8], at: usize, stop: u8) -> Number
+fn lone_zero(bytes: &[u8], at: usize, stop: u8) -> Option<Number>
     ensures { result ≡ read_zero stop at (drop at bytes.now) }
 {
     if bytes.len() <= at {
-        return Number::NoNumber;
+        return None;
     }
     if bytes[at] == stop {
-        Number::Is {
+        Some(Number {
             value: 0,
             next: at + 1,
-        }
+        })
     } else {
-        Number::NoNumber
+        None
     }
 }
 
 // A number up to `stop`.
-pub fn read_number(bytes: &[u8], at: usize, stop: u8) -> Number
+pub fn read_number(bytes: &[u8], at: usize, stop: u8) -> Option<Number>
     ensures { result ≡ bounded (read_number stop at (drop at bytes.now)) }
 {
     if bytes.len() <= at {
-        return Number::NoNumber;
+        return None;
     }
     let c = bytes[at];
     if c == b'0' {
         return lone_zero(bytes, at + 1, stop);
     }
     if c == stop {
-        return Number::NoNumber;
+        return None;
     }
     digits(bytes, at, stop)
 }

@@ -1,5 +1,5 @@
 // How far two strings of bytes are the same, looked at four bytes at a time.
-ghost use Rattle.std.specs.Prelude.{◌≡◌, true, ◌+◌, ◌≤◌, ◌<◌, length};
+ghost use Rattle.std.specs.Prelude.{◌≡◌, true, ◌+◌, ◌≤◌, length};
 ghost use Rattle.bencode.specs.Front.{Alike, FourAlike, Front};
 
 use octets::wide;
@@ -25,37 +25,24 @@ fn words_alike(one: &[u8], other: &[u8], n: usize) -> usize
     requires { (n ≤ length one.now) × (n ≤ length other.now) }
     ensures { (result ≤ n) × Alike one.now other.now result }
 {
-    let mut i = 0;
-    while i + 4 <= n {
-        if !four_alike(one, other, i) {
-            return i;
+    for k in 0..n / 4 {
+        if !four_alike(one, other, 4 * k) {
+            return 4 * k;
         }
-        i += 4;
     }
-    i
-}
-
-// The smaller of two lengths.
-fn shorter(m: usize, n: usize) -> usize
-    ensures { (result ≤ m) × (result ≤ n) × (result < m → result < n → ⊥) }
-{
-    if m < n {
-        return m;
-    }
-    n
+    n / 4 * 4
 }
 
 // How many bytes from the first on are the same.
 pub fn front(one: &[u8], other: &[u8]) -> usize
     ensures { Front one.now other.now result }
 {
-    let n = shorter(one.len(), other.len());
-    let mut i = words_alike(one, other, n);
-    while i < n {
+    let n = one.len().min(other.len());
+    let first = words_alike(one, other, n);
+    for i in first..n {
         if one[i] != other[i] {
             return i;
         }
-        i += 1;
     }
-    i
+    n
 }

@@ -4,6 +4,7 @@
 pub mod decimal;
 pub mod front;
 pub mod order;
+pub mod part;
 pub mod parts;
 pub mod scalar;
 pub mod walk;

@@ -1,11 +1,14 @@
 // Strings compared by their common front: whether they are the same, and which stands before the other; and the order of keys.
-ghost use Rattle.std.specs.Prelude.{◌≡◌, ◌≤◌, length, drop};
+// Slices' own `==` and `<` go byte by byte; by the front four bytes are looked at at a time, which searches among many keys rest on.
+ghost use Rattle.std.specs.Prelude.{◌≡◌, length, drop};
 ghost use Rattle.octets.specs.Octets as O;
 ghost use Rattle.bencode.specs.Grammar.{precedes};
+ghost use Rattle.bencode.specs.Scalar.{Within};
 ghost use Rattle.bencode.specs.Walk.{read_key, key_before};
 
 use crate::front::front;
-use crate::scalar::{ByteString, read_string};
+use crate::part::Part;
+use crate::scalar::read_string;
 
 // Whether `one` and `other` are the same bytes.
 pub fn same(one: &[u8], other: &[u8]) -> bool
@@ -32,22 +35,19 @@ pub fn comes_before(one: &[u8], other: &[u8]) -> bool
     one[n] < other[n]
 }
 
-// The string at `at` if it is a key: it stands after the key before it, which is the bytes from start up to end where one was seen.
-pub fn read_key(bytes: &[u8], at: usize, seen: bool, start: usize, end: usize) -> ByteString
-    requires { (start ≤ end) × (end ≤ length bytes.now) }
-    ensures { result ≡ read_key (key_before seen start end bytes.now) at (drop at bytes.now) }
+// The string at `at` if it is a key: it stands after the key before it, if there was one.
+pub fn read_key(bytes: &[u8], at: usize, before: Option<Part>) -> Option<Part>
+    requires { Within (length bytes.now) before }
+    ensures { result ≡ read_key (key_before before bytes.now) at (drop at bytes.now) }
 {
-    match read_string(bytes, at) {
-        ByteString::NoString => ByteString::NoString,
-        ByteString::Content { start: a, end: b } => {
-            if seen {
-                if comes_before(&bytes[start..end], &bytes[a..b]) {
-                    ByteString::Content { start: a, end: b }
-                } else {
-                    ByteString::NoString
-                }
+    let key = read_string(bytes, at)?;
+    match before {
+        None => Some(key),
+        Some(last) => {
+            if comes_before(&bytes[last.start..last.end], &bytes[key.start..key.end]) {
+                Some(key)
             } else {
-                ByteString::Content { start: a, end: b }
+                None
             }
         }
     }

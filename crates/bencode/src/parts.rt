@@ -4,26 +4,17 @@ ghost use Rattle.std.specs.Prelude.{◌≡◌, drop};
 ghost use Rattle.bencode.specs.Parts.{read_entry, find_key, is_dictionary};
 
 use crate::order::same;
-use crate::scalar::{ByteString, read_string};
-use crate::walk::{Walked, value_end};
+use crate::part::Part;
+use crate::scalar::read_string;
+use crate::walk::value_end;
 use limits::LEVELS;
-
-// A value's part, start..end.
-#[derive(Clone, Copy)]
-pub enum Found {
-    Part { start: usize, end: usize },
-    Missing,
-}
 
 // A dictionary's entry: its key's content is start..value, and its value's part value..end.
 #[derive(Clone, Copy)]
-pub enum Entry {
-    Keyed {
-        start: usize,
-        value: usize,
-        end: usize,
-    },
-    NoEntry,
+pub struct Entry {
+    pub start: usize,
+    pub value: usize,
+    pub end: usize,
 }
 
 // Whether a dictionary begins at `at`.
@@ -37,43 +28,36 @@ pub fn is_dictionary(bytes: &[u8], at: usize) -> bool
 }
 
 // The entry of a dictionary that begins at `at`: the first behind the `d`, each other where the one before ends, none at the `e`.
-pub fn read_entry(bytes: &[u8], at: usize) -> Entry
+pub fn read_entry(bytes: &[u8], at: usize) -> Option<Entry>
     ensures { result ≡ read_entry at (drop at bytes.now) }
 {
-    match read_string(bytes, at) {
-        ByteString::NoString => Entry::NoEntry,
-        ByteString::Content { start, end } => match value_end(bytes, end, LEVELS) {
-            Walked::Past(k) => Entry::Keyed {
-                start,
-                value: end,
-                end: k,
-            },
-            Walked::Broken => Entry::NoEntry,
-            Walked::TooDeep => Entry::NoEntry,
-        },
+    let key = read_string(bytes, at)?;
+    match value_end(bytes, key.end, LEVELS) {
+        Err(_) => None,
+        Ok(end) => Some(Entry {
+            start: key.start,
+            value: key.end,
+            end,
+        }),
     }
 }
 
-// The value of `key` in the dictionary that begins at `at`.
-pub fn find(bytes: &[u8], at: usize, key: &[u8]) -> Found
+// The part that is the value of `key` in the dictionary that begins at `at`.
+pub fn find(bytes: &[u8], at: usize, key: &[u8]) -> Option<Part>
     ensures { result ≡ find_key key.now at (drop at bytes.now) }
 {
     if !is_dictionary(bytes, at) {
-        return Found::Missing;
+        return None;
     }
-    let mut i = at + 1;
-    while i < bytes.len() {
-        match read_entry(bytes, i) {
-            Entry::NoEntry => {
-                return Found::Missing;
-            }
-            Entry::Keyed { start, value, end } => {
-                if same(key, &bytes[start..value]) {
-                    return Found::Part { start: value, end };
-                }
-                i = end;
-            }
+    let mut i = at + 1; // the next position comes from the bytes
+    while let Some(entry) = read_entry(bytes, i) {
+        if same(key, &bytes[entry.start..entry.value]) {
+            return Some(Part {
+                start: entry.value,
+                end: entry.end,
+            });
         }
+        i = entry.end;
     }
-    Found::Missing
+    None
 }

@@ -1,11 +1,11 @@
 -- Laws of bitwise functions: two that agree on bits agree on numbers.
 -- Assumes nothing.
 use Rattle.std.proofs.Common.{◌≡◌, ℕ, zero, suc, ◌+◌, ◌-◌, ◌*◌, ◌/◌, ◌%◌, ◌^◌, ◌<◌, sym, refl, ap, ◌∙◌, subst, add-zero, add_assoc, mod-lt, mod-eq_of_lt, mul_assoc, mul_comm, add-mul, add_comm, pow-suc, arith, lit<, pow_pos, pow-add, shr-shr, shr_lt}
-use native.Mathlib.Nat.{mul-mod_left, mul-add-mod_self_right, mul-add-div_right}
-use lib.Pow.{mod-pow-add, shl-shr}
-use lib.Arith.{digits_lt}
+use Rattle.std.proofs.Math.Nat.{mul-mod_left, mul-add-mod_self_right, mul-add-div_right}
+use Rattle.std.proofs.lemmas.Nat.{mod-pow-add, shl-shr, and_comm, xor_comm, and_shr, xor_shr, and_mod, xor_mod, and_mask, xor_lt, xor_block}
+use Rattle.std.proofs.Math.Arith.{digits_lt}
 use Rattle.bits.specs.Words.{Ch, Maj, rotr, Σ₀, Σ₁, σ₀, σ₁}
-use lib.Bits.{and_comm, xor_comm, bit_and, bit_or, bit_xor, and_shr, xor_shr, and_mod, xor_mod, xor_add_and, and_mask, xor_lt, xor_block, or_shifted_r}
+use lib.Bits.{bit_and, bit_or, bit_xor, xor_add_and, or_shifted_r}
 
 -- a function of three numbers that goes bit by bit
 pub record Bitwise (F : ℕ → ℕ → ℕ → ℕ) : Type 0 where

@@ -1,2 +1,2 @@
 pub mod Bitwise
-pub mod FourBytes
+pub mod BytesOfAWord

@@ -9,21 +9,21 @@ ghost use Rattle.bits.specs.Parsing.{word_at};
 pub fn add(x: u32, y: u32) -> u32
     ensures { result ≡ (x + y) % 2 ^ 32 }
 {
-    std::num::wrapping_add_u32(x, y)
+    x.wrapping_add(y)
 }
 
 pub fn rotr(x: u32, n: u32) -> u32
     requires { (0 < n) × (n < 32) }
     ensures { result ≡ W.rotr n x }
 {
-    (x >> n) | (x << (32 - n))
+    x.rotate_right(n)
 }
 
 pub fn rotl(x: u32, n: u32) -> u32
     requires { (0 < n) × (n < 32) }
     ensures { result ≡ W.rotl n x }
 {
-    (x << n) | (x >> (32 - n))
+    x.rotate_left(n)
 }
 
 pub fn parity(x: u32, y: u32, z: u32) -> u32
@@ -71,20 +71,10 @@ pub fn small1(x: u32) -> u32
     rotr(rotr(x, 2) ^ x, 17) ^ (x >> 10)
 }
 
-// A byte as a word.
-pub fn wide(byte: u8) -> u32
-    ensures { (result ≡ byte) × (result < 256) }
-{
-    byte as u32
-}
-
 // The word whose four bytes stand at `index`, the most significant first.
 pub fn word(bytes: &[u8], index: usize) -> u32
     requires { index + 4 ≤ length bytes.now }
     ensures { result ≡ word_at bytes.now index }
 {
-    (wide(bytes[index]) << 24)
-        | (wide(bytes[index + 1]) << 16)
-        | (wide(bytes[index + 2]) << 8)
-        | wide(bytes[index + 3])
+    u32::from_be_bytes(*bytes[index..].first_chunk().unwrap())
 }

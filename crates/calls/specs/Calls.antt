@@ -6,10 +6,7 @@ use Rattle.octets.specs.Octets.{cut, number_at}
 use Rattle.numbers.specs.Numbers.{no_room, no_such_part, halves_differ, refused}
 use Rattle.numbers.specs.declared.Answer.{Answer}
 use Rattle.filetree.specs.Tree.{max_elements}
-use Rattle.torrent.specs.Torrent.{no_torrent, no_file_read, no_part_read}
-use Rattle.torrent.specs.declared.read.Torrent.{Torrent}
-use Rattle.torrent.specs.declared.read.FileRead.{FileRead}
-use Rattle.torrent.specs.declared.read.PartRead.{PartRead}
+use Rattle.torrent.specs.Torrent.{PartRead, FileRead, Torrent, no_torrent, no_file_read, no_part_read}
 
 -- the numbers of a torrent that is refused: 19 to 28, or 31
 abbrev pub OfTorrent : ℕ → Type 0

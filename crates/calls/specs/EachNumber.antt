@@ -4,9 +4,8 @@
 -- Assumes nothing.
 use Rattle.std.specs.Prelude.{◌≡◌, ◌⊎◌, ◌↔◌, List, ℕ, ◌*◌, ◌≤◌, ◌<◌, length}
 use Rattle.std.proofs.Math.Path.{refl}
-use Rattle.std.proofs.Common.{sym, ap, ◌∙◌, inl, inr, arith}
+use Rattle.std.proofs.Common.{sym, ap, ◌∙◌, inl, inr, arith, ne_eqb, lt-ltb, le-ltb}
 use Rattle.std.proofs.Math.Decide.{dec_lt, ℕ_discrete}
-use borrow.Author.Tests.{ne_eqb, lt-ltb, le-ltb}
 use Rattle.limits.specs.Limits.{largest_torrent, max_levels}
 use Rattle.numbers.specs.Numbers.{key_missing, layer_differs, no_room, no_such_part}
 use Rattle.bencode.specs.Grammar.{dictionary, Entries, encode, Valid}
@@ -15,12 +14,10 @@ use Rattle.meaning.proofs.NthLaws.{nth_some}
 use Rattle.meaning.specs.Torrent.{File, files_of, value_number}
 use Rattle.halves.specs.V1Half.{torrent_number}
 use Rattle.halves.proofs.HalvesLaws.{lower_exactly}
-use Rattle.torrent.specs.Torrent.{checked_of, read_of, file_read, path_read}
+use Rattle.torrent.specs.Torrent.{PartRead, FileRead, checked_of, read_of, file_read, path_read}
 use Rattle.torrent.specs.Answers.{Says, too_large, no_encoding, too_deep, encodes}
 use Rattle.torrent.specs.NumberMeans.{read_number_lem, read_says, no_other_number, read_encodes, refused_file, refused_path, file_29_after, path_29_after}
 use Rattle.torrent.specs.ReadMeans.{torrent_is, file_is, no_file, no_file_only, no_element, no_element_only, no_path}
-use Rattle.torrent.specs.declared.read.FileRead.{FileRead}
-use Rattle.torrent.specs.declared.read.PartRead.{PartRead}
 use Rattle.catalogue.specs.Catalogue.{record_size, list_answer}
 use Rattle.calls.specs.CallsLaws.{checked_ranged, of_torrent}
 use Rattle.calls.specs.InsideLaws.{file_elements, file_answered}

@@ -20,12 +20,9 @@ use Rattle.meaning.proofs.PathsLaws.{element_exactly, followed, on_the_way, in_f
 use Rattle.meaning.proofs.NamesAside.{tree_shaped, names_right}
 use Rattle.meaning.proofs.NamesAsideLaws.{names_right_stands, names_only_25}
 use Rattle.halves.specs.V1Half.{with_halves, torrent_number}
-use Rattle.torrent.specs.Torrent.{checked_of, read_of, file_read, path_read}
+use Rattle.torrent.specs.Torrent.{PartRead, FileRead, Torrent, checked_of, read_of, file_read, path_read}
 use Rattle.torrent.specs.NumberMeans.{number_is_the_values, read_number_lem, read_encodes, refused_read, refused_file, refused_path}
 use Rattle.torrent.specs.ReadMeans.{at_values, value_zero, torrent_is, file_is, no_file, element_is, no_element, no_path}
-use Rattle.torrent.specs.declared.read.Torrent.{Torrent}
-use Rattle.torrent.specs.declared.read.FileRead.{FileRead}
-use Rattle.torrent.specs.declared.read.PartRead.{PartRead}
 use Rattle.catalogue.specs.Catalogue.{list_answer, list_after}
 use Rattle.calls.specs.RecordLaws.{list_record}
 use Rattle.calls.specs.Inside.{element_read, elements_read, file_path, file_leads, record_at, record_elements, record_element}

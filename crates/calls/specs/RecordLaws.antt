@@ -1,10 +1,9 @@
 -- Record n of the list, read back, is what `kd_torrent_file` and `kd_torrent_path` answer for file n.
 -- Assumes nothing.
-use Rattle.std.specs.Prelude.{◌≡◌, Bool, ℕ, zero, suc, ◌+◌, ◌-◌, ◌*◌, ◌^◌, ◌≤◌, ◌<◌, length, eqb, ltb}
+use Rattle.std.specs.Prelude.{◌≡◌, Bool, ℕ, zero, suc, ◌+◌, ◌-◌, ◌*◌, ◌^◌, ◌≤◌, ◌<◌, length, eqb, ltb, List, [], ◌∷◌, ◌++◌, Option}
 use Rattle.std.proofs.Math.Path.{refl, ap}
-use Rattle.std.proofs.Common.{sym, ◌∙◌, arith, eqb-true, ltb-false}
+use Rattle.std.proofs.Common.{sym, ◌∙◌, arith, eqb-true, ltb-false, append_assoc}
 use Rattle.std.proofs.Math.Bool.{true, false}
-use mathlib.Core.List.{List, [], ◌∷◌, ◌++◌, append_assoc}
 use Rattle.std.proofs.Math.Decide.{dec_lt}
 use Rattle.std.proofs.Math.ListN.{get_or-append}
 use Rattle.std.proofs.Math.Seq.{take-append_seam}
@@ -16,7 +15,7 @@ use Rattle.numbers.specs.Numbers.{no_room}
 use Rattle.tree.specs.Geometry.{piece_count, ceil_div}
 use Rattle.tree.proofs.GeometryLaws.{ceil_enough, piece_some}
 use Rattle.bencode.specs.Grammar.{dictionary, Entries, encode, Valid}
-use Rattle.bencode.specs.declared.scalar.ByteString.{ByteString}
+use Rattle.bencode.specs.declared.part.Part.{Part}
 use Rattle.bencode.specs.PartsLaws.{one_string}
 use Rattle.meaning.specs.Nth.{Nth}
 use Rattle.meaning.proofs.NthLaws.{nth_some}
@@ -24,25 +23,22 @@ use Rattle.meaning.specs.Torrent.{File, tree_of, plen_of, files_of}
 use Rattle.meaning.proofs.TestsLaws.{tree_no}
 use Rattle.meaning.proofs.AmissLaws.{right_piece, right_tree, all_layers}
 use Rattle.meaning.proofs.FilesLaws.{FileHolds, AllHold, nth_holds, nth_right, element_full, files_hold}
-use Rattle.metainfo.specs.Metainfo.{bytes_in, keys_of}
-use Rattle.metainfo.specs.declared.Keys.{Keys}
+use Rattle.metainfo.specs.Metainfo.{Keys, bytes_in, keys_of}
 use Rattle.filetree.specs.Tree.{max_elements, Element, Listed, listed, files_in, file_number}
 use Rattle.filetree.specs.FilesLaws.{files_right, number_right}
 use Rattle.layers.specs.Layers.{root_bytes, layer_string, start_of, size_of}
 use Rattle.filetree.specs.Reading.{read_file}
-use Rattle.torrent.specs.Torrent.{checked_of, read_of, file_read, file_answer, path_read, element_in}
+use Rattle.torrent.specs.Torrent.{PartRead, FileRead, checked_of, read_of, file_read, file_answer, path_read, element_in}
 use Rattle.torrent.specs.Answers.{FileIs}
 use Rattle.torrent.specs.NumberMeans.{read_number_lem, read_encodes}
 use Rattle.torrent.specs.ReadMeans.{part_within, at_values, value_zero, same_keys, all_files, torrent_is, file_read_lem, file_answer_lem, path_answer, file_is, element_is}
-use Rattle.torrent.specs.declared.read.FileRead.{FileRead}
-use Rattle.torrent.specs.declared.read.PartRead.{PartRead}
 use Rattle.catalogue.specs.Catalogue.{part_bytes, element_bytes, elements_bytes, head_bytes, Parts, record_of, record_size, records_of, parts_of, list_answer, list_after}
 use Rattle.catalogue.proofs.CatalogueLaws.{element_none, elements_length, root_length, record_length, records_length, record_at}
 use Rattle.calls.specs.Calls.{RecordIs}
 
 -- ---- the head
 
-module _ (base n : ℕ) (root : List ℕ) (layer : ByteString) (elements : ℕ) (rest : List ℕ) (wide : length root ≡ 32) where
+module _ (base n : ℕ) (root : List ℕ) (layer : Option Part) (elements : ℕ) (rest : List ℕ) (wide : length root ≡ 32) where
   abbrev start : ℕ
   start = start_of base layer
 
@@ -184,7 +180,7 @@ record_carries p f part within long start size few is small =
     root : List ℕ
     root = root_bytes p.t f.size f.root
 
-    layer : ByteString
+    layer : Option Part
     layer = layer_string p.l p.plen f.size (cut p.t f.root 32)
 
     count : ℕ

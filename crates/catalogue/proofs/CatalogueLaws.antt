@@ -1,25 +1,23 @@
 -- How layered a record and the list are, how the list grows by a file, and what a torrent that gets 0 has.
 -- Assumes nothing.
-use Rattle.std.specs.Prelude.{◌≡◌, Bool, true, false, cond, ◌&&◌, length, take, drop, get_or, eqb, ltb}
+use Rattle.std.specs.Prelude.{◌≡◌, Bool, true, false, cond, ◌&&◌, length, take, drop, get_or, eqb, ltb, List, [], ◌∷◌, ◌++◌, ℕ, zero, suc, ◌+◌, ◌-◌, ◌*◌, ◌≤◌, ◌<◌, Option, Some, None}
 use Rattle.std.proofs.Math.Path.{refl, sym, ap₂}
-use Rattle.std.proofs.Common.{ap, ◌∙◌, arith, length-append, take_at, le-ltb, lt-ltb}
+use Rattle.std.proofs.Common.{ap, ◌∙◌, arith, length-append, take_at, le-ltb, lt-ltb, append_assoc, append-nil}
 use Rattle.std.proofs.lemmas.Bool.{false≢true, eqb-false}
-use mathlib.Core.List.{List, [], ◌∷◌, ◌++◌, append_assoc, append-nil}
-use Prim.Native.Nat.{ℕ, zero, suc, ◌+◌, ◌-◌, ◌*◌, ◌≤◌, ◌<◌}
 use Rattle.std.proofs.Math.Decide.{dec_lt}
 use Rattle.std.proofs.Math.Seq.{drop-append-add}
 use Rattle.limits.specs.Limits.{largest_torrent}
 use Rattle.octets.specs.Octets.{cut, zero_hash, be}
 use Rattle.octets.specs.OctetsLaws.{cut_length, be_octets, zero_octets}
 use Rattle.numbers.specs.Numbers.{wrong_tree, two_lengths, layers_amiss}
-use Rattle.bencode.specs.declared.scalar.ByteString.{ByteString}
+use Rattle.bencode.specs.declared.part.Part.{Part}
 use Rattle.metainfo.specs.Metainfo.{bytes_in}
 use Rattle.filetree.specs.Token.{token_at}
 use Rattle.filetree.specs.TokenLaws.{TokenIn, token_in}
 use Rattle.filetree.specs.TreeLaws.{directory_ends, tree_below}
 use Rattle.filetree.specs.CountLaws.{roots_append}
 use Rattle.filetree.specs.declared.token.Token.{Token}
-use Rattle.filetree.specs.declared.token.Token.TheVariants.{Opened, Closed, Leaf, BadToken}
+use Rattle.filetree.specs.declared.token.Token.TheVariants.{Opened, Closed, Leaf}
 use Rattle.layers.specs.JudgeLaws.{tree_some}
 use Rattle.filetree.specs.Tree.{max_elements, Element, Listed, listed_as, down, Files, wrong, files, after, onward, on_token, files_from, files_below, right, listed, files_in, roots_of, file_number}
 use Rattle.filetree.specs.Path.{Holds}
@@ -30,9 +28,8 @@ use Rattle.meaning.specs.Torrent.{lengths_agree}
 use Rattle.twins.specs.Twins.{layer_count}
 use Rattle.twins.specs.WalkLaws.{layers_roots}
 use Rattle.layers.specs.Layers.{keys_wide, layer_keys, worst, root_bytes, layer_string, start_of, size_of}
-use Rattle.torrent.specs.Torrent.{files_number, tree_number}
+use Rattle.torrent.specs.Torrent.{Checked, files_number, tree_number}
 use Rattle.torrent.specs.CheckLaws.{Whole}
-use Rattle.torrent.specs.declared.check.Checked.{Checked}
 use Rattle.catalogue.specs.Catalogue.{part_bytes, element_bytes, elements_bytes, head_bytes, Parts, record_of, record_size, records_of}
 use Rattle.catalogue.specs.Asks.{array_element, array_elements, record_from, parts_with, Listable}
 use Rattle.catalogue.specs.declared.record.Listing.{Listing}
@@ -105,7 +102,7 @@ unfolding array_elements
 array_length base path n zero = refl
 array_length base path n (suc m) = length-append (array_elements base path n m) (array_element base path n m) ∙ omega (arith, array_length base path n m, array_element_length base path n m)
 
-pub head_length : (base n : ℕ) (root : List ℕ) (layer : ByteString) (elements : ℕ) → length root ≡ 32 → length (head_bytes base n root layer elements) ≡ 56
+pub head_length : (base n : ℕ) (root : List ℕ) (layer : Option Part) (elements : ℕ) → length root ≡ 32 → length (head_bytes base n root layer elements) ≡ 56
 unfolding head_bytes
 head_length base n root layer elements e =
     let a = length-append (be 8 n) root in
@@ -200,11 +197,11 @@ from_few sub t hs (suc n) at path = by_token (token_at t at) (token_in t at) (λ
     by_sub b wrong h p later = tt
     by_sub b (files fs k) h p later = let g = p.0 in let q = p.1 in after_few at k fs (files_from sub n t k path) (omega arith) (omega arith) (later k)
 
-    by_token : (x : Token) → TokenIn at (length t) x → Later → Few at (on_token sub (λ k. files_from sub n t k path) at path x)
-    by_token BadToken p later = tt
-    by_token Closed p later = (omega arith, none_few at)
-    by_token (Opened a b) p later = by_sub b (sub (b + 1) (down path a b)) p.0 (hs (b + 1) (down path a b)) later
-    by_token (Leaf a b m r k) p later =
+    by_token : (x : Option Token) → TokenIn at (length t) x → Later → Few at (on_token sub (λ k. files_from sub n t k path) at path x)
+    by_token None p later = tt
+    by_token (Some Closed) p later = (omega arith, none_few at)
+    by_token (Some (Opened a b)) p later = by_sub b (sub (b + 1) (down path a b)) p.0 (hs (b + 1) (down path a b)) later
+    by_token (Some (Leaf a b m r k)) p later =
         let g = p.0 in
         after_few at k (listed_as m r (down path a b) ∷ []) (files_from sub n t k path) (omega arith) (one_few at k m r (down path a b) g (λ z. (p.2 z).0)) (later k)
 

@@ -1,13 +1,8 @@
 -- Before the list is written, and what is answered then.
 -- Assumes nothing.
-use mathlib.Core.Path.{◌≡◌, refl, sym, ◌∙◌}
-use mathlib.Core.Bool.{Bool, true, false, ◌&&◌, false≢true}
-use mathlib.Core.List.{List}
-use Prim.Native.Nat.{ℕ, ◌-◌, ◌*◌, ◌≤◌, ◌<◌}
-use native.Mathlib.Omega.{arith}
-use lib.ListN.{length, take, drop}
-use lib.Dec.{eqb}
-use borrow.Author.Tests.{lt-ltb, le-ltb, eq-eqb, ne_eqb}
+use Rattle.std.specs.Prelude.{◌≡◌, refl, Bool, true, false, ◌&&◌, List, ℕ, ◌-◌, ◌*◌, ◌≤◌, ◌<◌, length, take, drop, eqb}
+use Rattle.std.proofs.Common.{sym, ◌∙◌, arith, lt-ltb, le-ltb, eq-eqb, ne_eqb}
+use Rattle.std.proofs.lemmas.Bool.{false≢true}
 use Rattle.limits.specs.Limits.{largest_torrent}
 use Rattle.octets.specs.Octets.{cut, pasted}
 use Rattle.numbers.specs.Numbers.{no_room, refused, done}
@@ -16,9 +11,8 @@ use Rattle.filetree.specs.Tree.{max_elements, files_in, listed}
 use Rattle.filetree.specs.Count.{most_roots}
 use Rattle.filetree.specs.Path.{path_size}
 use Rattle.layers.specs.Layers.{keys_wide, layer_keys, Indexed}
-use Rattle.torrent.specs.Torrent.{checked_of}
+use Rattle.torrent.specs.Torrent.{Checked, checked_of}
 use Rattle.torrent.specs.CheckLaws.{Whole, checked_so}
-use Rattle.torrent.specs.declared.check.Checked.{Checked}
 use Rattle.catalogue.specs.Catalogue.{record_size, records_of, list_answer, list_after}
 use Rattle.catalogue.specs.Asks.{Listable, parts_with, SpotRight}
 use Rattle.catalogue.proofs.CatalogueLaws.{listing_of, whole_ready, few_files}

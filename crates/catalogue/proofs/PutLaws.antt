@@ -1,12 +1,13 @@
 -- The records of a directory's files written by a walk that keeps the path.
 -- Assumes nothing.
-use Rattle.std.specs.Prelude.{◌≡◌, refl, true, List, [], ◌∷◌, ◌++◌, ℕ, ◌+◌, ◌-◌, ◌*◌, ◌≤◌, ◌<◌, length, get_or, set}
+use Rattle.catalogue.specs.Asks.{past}
+use Rattle.std.specs.Prelude.{◌≡◌, refl, true, List, [], ◌∷◌, ◌++◌, ℕ, ◌+◌, ◌-◌, ◌*◌, ◌≤◌, ◌<◌, length, get_or, set, Option, None, unwrap_or}
 use Rattle.std.proofs.Common.{sym, ap, ◌∙◌, arith, length-append, length-set, get_or-set_same, get_or-set_other}
 use Rattle.std.proofs.Math.Decide.{dec_lt}
 use Rattle.limits.specs.Limits.{largest_torrent}
 use Rattle.octets.specs.Octets.{pasted}
 use Rattle.octets.specs.OctetsLaws.{pasted_append, pasted_none}
-use Rattle.filetree.specs.Token.{token_at}
+use Rattle.filetree.specs.Token.{token_at, opened_token, closed_token, leaf_token}
 use Rattle.filetree.specs.TokenLaws.{leaf_ends, opened_ends}
 use Rattle.filetree.specs.Tree.{max_elements, Element, Listed, listed_as, down, Files, wrong, files, files_from, files_below, files_in, right, listed}
 use Rattle.filetree.specs.TreeLaws.{tree_below, FilesPassed, passed_none, passed_bad, passed_end, passed_closed, passed_file, passed_wrong, passed_directory, split, same_files_lem, not_wrong, is_right}
@@ -15,13 +16,11 @@ use Rattle.filetree.specs.PathLaws.{holds_length, holds_down, holds_still, set_l
 use Rattle.layers.specs.JudgeLaws.{tree_some}
 use Rattle.torrent.specs.Find.{PathGiven}
 use Rattle.torrent.specs.FindLaws.{holds_up, right_is}
-use Rattle.filetree.specs.declared.token.Token.TheVariants.{Opened, Closed, Leaf, BadToken}
 use Rattle.catalogue.specs.Catalogue.{Parts, record_size, records_of}
 use Rattle.catalogue.specs.Asks.{record_from, RecordRight, parts_with, SpotRight, Recorded, Puts}
 use Rattle.catalogue.proofs.CatalogueLaws.{same_record, record_length, records_append, records_one}
 use Rattle.catalogue.specs.declared.Spot.{Spot}
 use Rattle.catalogue.specs.declared.Put.{Put}
-use Rattle.catalogue.specs.declared.Put.TheVariants.{Past, WrongTree}
 
 -- ---- the path
 
@@ -81,8 +80,10 @@ more_records q out₀ out₁ out to fs gs e lf lg f h = (
   ap length (records_append q fs gs) ∙ length-append (records_of q fs) (records_of q gs) ∙ omega (arith, length-append fs gs),
 )
 
-same_past : (k j m n : ℕ) → Past k m ≡ Past j n → (k ≡ j) × (m ≡ n)
-same_past k j m n e = (cc, cc)
+same_past : (k j m n : ℕ) → past k m ≡ past j n → (k ≡ j) × (m ≡ n)
+same_past k j m n e =
+    let the : Option Put → Put = λ w. unwrap_or w (record { next = k; to = m }) in
+    (ap (λ w. (the w).next) e, ap (λ w. (the w).to) e)
 
 -- ---- how far the writing has come
 
@@ -113,7 +114,7 @@ files_listed x fs k e = ap listed e
 -- a directory that is wrong, or for which there is no room
 pub puts_never : (t l : List ℕ) (s : Spot) (path₀ path out₀ out : List ℕ) → PathGiven path (max_elements - s.levels) s.list.tree
     → ((p : List Element) → Holds path₀ (max_elements - s.levels) p → right (files_below s.levels t s.at p) ≡ true → s.to + record_size * length (listed (files_below s.levels t s.at p)) ≤ length out₀ → ⊥)
-    → Puts t l s path₀ path out₀ out WrongTree
+    → Puts t l s path₀ path out₀ out None
 puts_never t l s path₀ path out₀ out g h =
     record {
       ends = tt;
@@ -122,7 +123,7 @@ puts_never t l s path₀ path out₀ out g h =
     }
 
 -- a directory inside ends behind its opening
-pub inside_behind : {t l : List ℕ} {s : Spot} {path path' out out' : List ℕ} (i : ℕ) {a b k m : ℕ} → token_at t i ≡ Opened a b → Puts t l s path path' out out' (Past k m) → s.at ≡ b + 1
+pub inside_behind : {t l : List ℕ} {s : Spot} {path path' out out' : List ℕ} (i : ℕ) {a b k m : ℕ} → token_at t i ≡ opened_token a b → Puts t l s path path' out out' (past k m) → s.at ≡ b + 1
     → (i < k) × (k ≤ length t)
 inside_behind {t} i {a} {b} e x q = let y = x.ends.0 in let z = (opened_ends t i a b e).0 in (omega arith, x.ends.1)
 
@@ -136,30 +137,30 @@ module _ {t l : List ℕ} {s : Spot} {path₀ path out₀ out : List ℕ} {below
   abbrev q : Parts
   q = parts_with t l s.list
 
-  pub puts_bad : token_at t i ≡ BadToken → Puts t l s path₀ path out₀ out WrongTree
+  pub puts_bad : token_at t i ≡ None → Puts t l s path₀ path out₀ out None
   puts_bad e = puts_never t l s path₀ path out₀ out w.given (λ p o r g. let x = w.passed p o r g in not_wrong (whole p) r (passed_bad t (whole p) below p i x.0 x.1 e))
 
-  pub puts_end : length t ≤ i → Puts t l s path₀ path out₀ out WrongTree
+  pub puts_end : length t ≤ i → Puts t l s path₀ path out₀ out None
   puts_end e = puts_never t l s path₀ path out₀ out w.given (λ p o r g. let x = w.passed p o r g in not_wrong (whole p) r (passed_end t (whole p) below p i x.0 x.1 e))
 
   module _ (h : i < length t) where
-    pub puts_closed : token_at t i ≡ Closed → Puts t l s path₀ path out₀ out (Past (i + 1) to)
+    pub puts_closed : token_at t i ≡ closed_token → Puts t l s path₀ path out₀ out (past (i + 1) to)
     puts_closed e = record { ends = (let x = w.in_order in omega arith, omega arith, w.fits, let x = w.early in omega arith); given = w.given; puts = go }
       where
         go : (p : List Element) → Holds path₀ depth p → (fs : List Listed) (k : ℕ) → whole p ≡ files fs k → s.to + record_size * length fs ≤ length out₀
-            → Recorded q fs k s.to out₀ out (Past (i + 1) to) × Holds path depth p
+            → Recorded q fs k s.to out₀ out (past (i + 1) to) × Holds path depth p
         go p o fs k e' r =
             let x = w.passed p o (is_right (whole p) fs k e') (rw (files_listed (whole p) fs k e') r) in
             let y = same_files_lem x.0 fs (i + 1) k (sym (passed_closed t (whole p) below p i x.0 x.1 h e) ∙ e') in (
               record {
-                answer = rw (y.1, x.2) (ap (λ (z : List Listed). Past k (s.to + record_size * length z)) y.0);
+                answer = rw (y.1, x.2) (ap (λ (z : List Listed). past k (s.to + record_size * length z)) y.0);
                 records = x.3 ∙ ap (λ (z : List Listed). pasted out₀ s.to (records_of q z)) y.0;
                 size = rw y.0 at x.4;
               },
               x.5,
             )
 
-    module _ {a b n r k : ℕ} (e : token_at t i ≡ Leaf a b n r k) where
+    module _ {a b n r k : ℕ} (e : token_at t i ≡ leaf_token a b n r k) where
       -- how many files there are at least
       at_least : (p : List Element) (o : Holds path₀ depth p) (u : right (whole p) ≡ true) (g : s.to + record_size * length (listed (whole p)) ≤ length out₀) → to + record_size ≤ length out₀
       at_least p o u g =
@@ -172,7 +173,7 @@ module _ {t l : List ℕ} {s : Spot} {path₀ path out₀ out : List ℕ} {below
           let m = x.2 in
           omega (arith, ap length is, length-append (x.0 ++ f ∷ []) z.0, length-append x.0 (f ∷ []))
 
-      pub puts_full : length out - to < record_size → Puts t l s path₀ path out₀ out WrongTree
+      pub puts_full : length out - to < record_size → Puts t l s path₀ path out₀ out None
       puts_full g = puts_never t l s path₀ path out₀ out w.given (λ p o u v. let x = at_least p o u v in let y = w.sized in let z = w.fits in omega arith)
 
       module _ (c : SpotRight (length t) (length l) (length out₀) path₀ s) (nz : s.levels ≡ 0 → ⊥) (room : record_size ≤ length out - to) {path' : List ℕ} (ep : path' ≡ set_element path depth a b) where
@@ -216,7 +217,7 @@ module _ {t l : List ℕ} {s : Spot} {path₀ path out₀ out : List ℕ} {below
                 let y = more_records q out₀ out out' s.to x.0 (f ∷ []) x.3 x.4 one (eo ∙ ap (pasted out to) rec ∙ ap (λ (z : ℕ). pasted out z (records_of q (f ∷ []))) m) (omega arith) in
                 (x.0 ++ f ∷ [], passed_file t (whole p) below p i x.0 x.1 h a b n r k e, omega (arith, length-append x.0 (f ∷ [])), y.0, y.1, rw ep (holds_still path depth p a b x.5))
 
-    module _ {a b : ℕ} (e : token_at t i ≡ Opened a b) (c : SpotRight (length t) (length l) (length out₀) path₀ s) (nz : s.levels ≡ 0 → ⊥) (lb : below ≡ s.levels - 1) {path' : List ℕ} (ep : path' ≡ set_element path depth a b) where
+    module _ {a b : ℕ} (e : token_at t i ≡ opened_token a b) (c : SpotRight (length t) (length l) (length out₀) path₀ s) (nz : s.levels ≡ 0 → ⊥) (lb : below ≡ s.levels - 1) {path' : List ℕ} (ep : path' ≡ set_element path depth a b) where
       abbrev inner : Spot
       inner = record { list = s.list; at = b + 1; levels = below; to = to }
 
@@ -260,7 +261,7 @@ module _ {t l : List ℕ} {s : Spot} {path₀ path out₀ out : List ℕ} {below
       held p o = rw (deep, ep) (holds_down path depth p w.given.sized o a b (let x = c.shallow in omega arith))
 
       module _ {path'' out'' : List ℕ} (lo : length out'' ≡ length out) where
-        inside_puts : (r : Put) → Puts t l inner path' path'' out out'' r → (p : List Element) (o : Holds path₀ depth p) (u : right (whole p) ≡ true) (g : s.to + record_size * length (listed (whole p)) ≤ length out₀)
+        inside_puts : (r : Option Put) → Puts t l inner path' path'' out out'' r → (p : List Element) (o : Holds path₀ depth p) (u : right (whole p) ≡ true) (g : s.to + record_size * length (listed (whole p)) ≤ length out₀)
             → Recorded q (inside_right p o u g).0 (inside_right p o u g).1 to out out'' r × Holds path'' (max_elements - below) (down p a b)
         inside_puts r x p o u g =
             let y = inside_right p o u g in
@@ -268,19 +269,19 @@ module _ {t l : List ℕ} {s : Spot} {path₀ path out₀ out : List ℕ} {below
             let v = y.3 in
             x.puts (down p a b) (held p (w.passed p o u g).5) y.0 y.1 y.2 (omega arith)
 
-        after_inside : (r : Put) → Puts t l inner path' path'' out out'' r → PathGiven path'' depth s.list.tree
+        after_inside : (r : Option Put) → Puts t l inner path' path'' out out'' r → PathGiven path'' depth s.list.tree
         after_inside r x = given_less path'' depth s.list.tree (rw deep at x.given)
 
-        pub puts_inside : Puts t l inner path' path'' out out'' WrongTree → Puts t l s path₀ path'' out₀ out'' WrongTree
+        pub puts_inside : Puts t l inner path' path'' out out'' None → Puts t l s path₀ path'' out₀ out'' None
         puts_inside x =
-            puts_never t l s path₀ path'' out₀ out'' (after_inside WrongTree x)
-            (λ p o u g. let y = (inside_puts WrongTree x p o u g).0.answer in let z : ◌≡◌ {A = ℕ} 0 1 = cc in omega arith)
+            puts_never t l s path₀ path'' out₀ out'' (after_inside None x)
+            (λ p o u g. let y = (inside_puts None x p o u g).0.answer in let z : ◌≡◌ {A = ℕ} 0 1 = cc in omega arith)
 
-        pub put_past : {k m : ℕ} → Puts t l inner path' path'' out out'' (Past k m) → PutAt t l s path₀ path'' out₀ out'' below k m
+        pub put_past : {k m : ℕ} → Puts t l inner path' path'' out out'' (past k m) → PutAt t l s path₀ path'' out₀ out'' below k m
         put_past {k} {m} x =
             record {
               in_order = let y = (inside_behind i e x refl).0 in let z = w.in_order in omega arith;
-              given = after_inside (Past k m) x;
+              given = after_inside (past k m) x;
               sized = lo ∙ w.sized;
               fits = let y = x.ends.2 in let z = w.sized in omega arith;
               early = x.ends.3;
@@ -293,7 +294,7 @@ module _ {t l : List ℕ} {s : Spot} {path₀ path out₀ out : List ℕ} {below
             go p o u g =
                 let x' = w.passed p o u g in
                 let y = inside_right p o u g in
-                let z = inside_puts (Past k m) x p o u g in
+                let z = inside_puts (past k m) x p o u g in
                 let v = same_past k y.1 m (to + record_size * length y.0) z.0.answer in
                 let inn : files_below below t (b + 1) (down p a b) ≡ files y.0 k = y.2 ∙ ap (files y.0) (sym v.0) in
                 let n = x'.2 in
@@ -310,7 +311,7 @@ module _ {t l : List ℕ} {s : Spot} {path₀ path out₀ out : List ℕ} {below
 
 -- ---- the whole tree
 
-pub tree_written : (t l : List ℕ) (s : Spot) (path₀ path out₀ out : List ℕ) (r : Put) → s.at ≡ 1 → s.levels ≡ max_elements → s.to ≡ 0 → right (files_in t) ≡ true → record_size * length (listed (files_in t)) ≤ length out₀
+pub tree_written : (t l : List ℕ) (s : Spot) (path₀ path out₀ out : List ℕ) (r : Option Put) → s.at ≡ 1 → s.levels ≡ max_elements → s.to ≡ 0 → right (files_in t) ≡ true → record_size * length (listed (files_in t)) ≤ length out₀
     → Puts t l s path₀ path out₀ out r → out ≡ pasted out₀ 0 (records_of (parts_with t l s.list) (listed (files_in t)))
 unfolding listed flat
 tree_written t l s path₀ path out₀ out r ea el et e h x =

@@ -1,19 +1,13 @@
 -- A record is written part behind part: what is put right behind what was put is both put at once.
 -- Assumes nothing.
-use mathlib.Core.Path.{◌≡◌, refl, sym, ap, ◌∙◌}
-use mathlib.Core.Bool.{true, false}
-use mathlib.Core.List.{List, ◌++◌}
-use Prim.Native.Nat.{ℕ, suc, ◌+◌, ◌-◌, ◌*◌, ◌≤◌, ◌<◌}
-use native.Mathlib.Omega.{arith}
-use native.Mathlib.Numerals.{add-one}
-use lib.ListN.{length, take, drop, get_or, length-append}
-use borrow.Author.Tests.{lt-ltb, le-ltb}
+use Rattle.bencode.specs.Scalar.{part}
+use Rattle.std.specs.Prelude.{◌≡◌, refl, true, false, List, ◌++◌, ℕ, suc, ◌+◌, ◌-◌, ◌*◌, ◌≤◌, ◌<◌, length, take, drop, get_or, Option, Some, None}
+use Rattle.std.proofs.Common.{sym, ap, ◌∙◌, arith, add-one, length-append, lt-ltb, le-ltb}
 use Rattle.limits.specs.Limits.{largest_torrent}
 use Rattle.octets.specs.Octets.{cut, be, pasted}
 use Rattle.octets.specs.OctetsLaws.{be_octets, pasted_length, pasted_append, pasted_none}
 use Rattle.tree.specs.Geometry.{has_layer}
-use Rattle.bencode.specs.declared.scalar.ByteString.{ByteString}
-use Rattle.bencode.specs.declared.scalar.ByteString.TheVariants.{Content, NoString}
+use Rattle.bencode.specs.declared.part.Part.{Part}
 use Rattle.sorting.proofs.Telling.{part_is}
 use Rattle.filetree.specs.Tree.{max_elements}
 use Rattle.layers.specs.Layers.{Inside, layer_at, root_bytes, layer_string, start_of, size_of}
@@ -67,17 +61,17 @@ module _ (out₀ out : List ℕ) (base : ℕ) (path : List ℕ) (at n k : ℕ) (
 
 -- ---- the head, its layer first
 
-module _ (s t : List ℕ) (at base : ℕ) (layer : ByteString) where
-  pub no_layer_written : layer ≡ NoString → t ≡ pasted s at (part_bytes 0 0) → t ≡ pasted s at (part_bytes (start_of base layer) (size_of layer))
+module _ (s t : List ℕ) (at base : ℕ) (layer : Option Part) where
+  pub no_layer_written : layer ≡ None → t ≡ pasted s at (part_bytes 0 0) → t ≡ pasted s at (part_bytes (start_of base layer) (size_of layer))
   no_layer_written e p = rw e p
 
-  pub layer_written : (a b : ℕ) → layer ≡ Content a b → t ≡ pasted s at (part_bytes (base + a) (b - a)) → t ≡ pasted s at (part_bytes (start_of base layer) (size_of layer))
+  pub layer_written : (a b : ℕ) → layer ≡ part a b → t ≡ pasted s at (part_bytes (base + a) (b - a)) → t ≡ pasted s at (part_bytes (start_of base layer) (size_of layer))
   layer_written a b e p = rw e p
 
-pub layer_forward : (base : ℕ) (layer : ByteString) (a b : ℕ) → layer ≡ Content a b → Forward base layer → (a ≤ b) × (base + b ≤ largest_torrent)
+pub layer_forward : (base : ℕ) (layer : Option Part) (a b : ℕ) → layer ≡ part a b → Forward base layer → (a ≤ b) × (base + b ≤ largest_torrent)
 layer_forward base layer a b e p = rw e at p
 
-module _ (s : List ℕ) (at base n : ℕ) (root : List ℕ) (layer : ByteString) (elements : ℕ) (r : length root ≡ 32) (h : at + 56 ≤ length s)
+module _ (s : List ℕ) (at base n : ℕ) (root : List ℕ) (layer : Option Part) (elements : ℕ) (r : length root ≡ 32) (h : at + 56 ≤ length s)
     (t₁ : List ℕ) (p₁ : t₁ ≡ pasted s at (be 8 n)) where
   module _ (t₂ : List ℕ) (p₂ : t₂ ≡ pasted t₁ (at + 8) root) where
     two : t₂ ≡ pasted s at (be 8 n ++ root)
@@ -109,23 +103,23 @@ module _ (s : List ℕ) (at base n : ℕ) (root : List ℕ) (layer : ByteString)
 
 -- ---- the layer
 
-inside_forward : (base end : ℕ) (w : ByteString) → base + end ≤ largest_torrent → Inside end w → Forward base w
-inside_forward base end NoString h p = tt
-inside_forward base end (Content a b) h p = let x = p.1 in (p.0, omega arith)
+inside_forward : (base end : ℕ) (w : Option Part) → base + end ≤ largest_torrent → Inside end w → Forward base w
+inside_forward base end None h p = tt
+inside_forward base end (Some w) h p = let x = p.1 in (p.0, omega arith)
 
 module _ (t l : List ℕ) (base plen n r : ℕ) (h : base + length l ≤ largest_torrent) where
-  pub layer_long : has_layer n plen ≡ true → (w : ByteString) → w ≡ layer_at l (take (r + 32 - r) (drop r t)) → (w ≡ layer_string l plen n (cut t r 32)) × Forward base w
+  pub layer_long : has_layer n plen ≡ true → (w : Option Part) → w ≡ layer_at l (take (r + 32 - r) (drop r t)) → (w ≡ layer_string l plen n (cut t r 32)) × Forward base w
   unfolding layer_string
   layer_long e w q = (rw e (q ∙ ap (layer_at l) (part_is t r)), rw q (inside_forward base (length l) (layer_at l (take (r + 32 - r) (drop r t))) h (layer_inside l (take (r + 32 - r) (drop r t)))))
 
-  pub layer_short : has_layer n plen ≡ false → (NoString ≡ layer_string l plen n (cut t r 32)) × Forward base NoString
+  pub layer_short : has_layer n plen ≡ false → (None ≡ layer_string l plen n (cut t r 32)) × Forward base None
   unfolding layer_string
   layer_short e = (rw e refl, tt)
 
 -- ---- the record
 
 module _ (t l path out₀ : List ℕ) (f : Record) (w : RecordRight (length t) (length l) (length out₀) path f)
-    (out₁ root : List ℕ) (layer : ByteString) (er : root ≡ root_bytes t f.length f.root) (el : layer ≡ layer_string l f.list.plen f.length (cut t f.root 32)) (p : out₁ ≡ pasted out₀ f.at (head_bytes f.list.layers f.length root layer f.elements)) where
+    (out₁ root : List ℕ) (layer : Option Part) (er : root ≡ root_bytes t f.length f.root) (el : layer ≡ layer_string l f.list.plen f.length (cut t f.root 32)) (p : out₁ ≡ pasted out₀ f.at (head_bytes f.list.layers f.length root layer f.elements)) where
   root_size : length root ≡ 32
   root_size = ap length er ∙ root_length t f.length f.root w.root_within
 

@@ -1,10 +1,9 @@
 -- What the functions that write the list ask for, and what they leave.
 -- Assumes nothing.
-use Rattle.std.specs.Prelude.{◌≡◌, true, cond, ◌&&◌, List, [], ◌++◌, ℕ, zero, suc, ◌+◌, ◌-◌, ◌*◌, ◌≤◌, ◌<◌, length, get_or, eqb, ltb}
+use Rattle.std.specs.Prelude.{◌≡◌, true, cond, ◌&&◌, List, [], ◌++◌, ℕ, zero, suc, ◌+◌, ◌-◌, ◌*◌, ◌≤◌, ◌<◌, length, get_or, eqb, ltb, Option, Some, None}
 use Rattle.limits.specs.Limits.{largest_torrent}
 use Rattle.octets.specs.Octets.{cut, be, pasted}
-use Rattle.bencode.specs.declared.scalar.ByteString.{ByteString}
-use Rattle.bencode.specs.declared.scalar.ByteString.TheVariants.{Content, NoString}
+use Rattle.bencode.specs.declared.part.Part.{Part}
 use Rattle.filetree.specs.Tree.{max_elements, Element, Listed, files, files_below, right, files_in}
 use Rattle.filetree.specs.Count.{most_roots}
 use Rattle.filetree.specs.Path.{Holds}
@@ -15,14 +14,13 @@ use Rattle.catalogue.specs.declared.record.Listing.{Listing}
 use Rattle.catalogue.specs.declared.record.Record.{Record}
 use Rattle.catalogue.specs.declared.Spot.{Spot}
 use Rattle.catalogue.specs.declared.Put.{Put}
-use Rattle.catalogue.specs.declared.Put.TheVariants.{Past, WrongTree}
 
 -- ---- a record, its path in an array
 
 -- a string ends behind its beginning, and within the torrent, of which its part begins at `base`
-abbrev pub Forward : ℕ → ByteString → Type 0
-Forward base NoString = Unit {0}
-Forward base (Content a b) = (a ≤ b) × (base + b ≤ largest_torrent)
+abbrev pub Forward : ℕ → Option Part → Type 0
+Forward base None = Unit {0}
+Forward base (Some w) = (w.start ≤ w.end) × (base + w.end ≤ largest_torrent)
 
 -- element k of the n that an array has
 unfoldable pub array_element : ℕ → List ℕ → ℕ → ℕ → List ℕ
@@ -71,18 +69,22 @@ pub record SpotRight (tree layers room : ℕ) (path : List ℕ) (s : Spot) : Typ
   pub fits : s.to ≤ room
   pub early : s.to ≤ record_size * s.at
 
-abbrev pub PutIn : ℕ → ℕ → ℕ → Put → Type 0
-PutIn at end room WrongTree = Unit {0}
-PutIn at end room (Past k m) = (at < k) × (k ≤ end) × (m ≤ room) × (m ≤ record_size * k)
+-- the position past a directory, and where the next record goes
+abbrev pub past : ℕ → ℕ → Option Put
+past k m = Some (record { next = k; to = m })
+
+abbrev pub PutIn : ℕ → ℕ → ℕ → Option Put → Type 0
+PutIn at end room None = Unit {0}
+PutIn at end room (Some w) = (at < w.next) × (w.next ≤ end) × (w.to ≤ room) × (w.to ≤ record_size * w.next)
 
 -- the records of the files fs are written
-pub record Recorded (q : Parts) (fs : List Listed) (k to : ℕ) (out₀ out : List ℕ) (r : Put) : Type 0 where
-  pub answer : r ≡ Past k (to + record_size * length fs)
+pub record Recorded (q : Parts) (fs : List Listed) (k to : ℕ) (out₀ out : List ℕ) (r : Option Put) : Type 0 where
+  pub answer : r ≡ past k (to + record_size * length fs)
   pub records : out ≡ pasted out₀ to (records_of q fs)
   pub size : length (records_of q fs) ≡ record_size * length fs
 
 -- so it is of a directory that is right, where the array has the path to it and there is room
-pub record Puts (t l : List ℕ) (s : Spot) (path₀ path out₀ out : List ℕ) (r : Put) : Type 0 where
+pub record Puts (t l : List ℕ) (s : Spot) (path₀ path out₀ out : List ℕ) (r : Option Put) : Type 0 where
   pub ends : PutIn s.at (length t) (length out₀) r
   pub given : PathGiven path (max_elements - s.levels) s.list.tree
   pub puts : (p : List Element) → Holds path₀ (max_elements - s.levels) p → (fs : List Listed) (k : ℕ) → files_below s.levels t s.at p ≡ files fs k → s.to + record_size * length fs ≤ length out₀

@@ -1,16 +1,14 @@
 -- 01, "The torrent": all files of a torrent s in one list, a record of `record_size` bytes for each, in tree order.
 -- Assumes nothing.
-use Rattle.std.specs.Prelude.{cond, List, [], ◌∷◌, ◌++◌, ℕ, zero, suc, ◌+◌, ◌-◌, ◌*◌, length, eqb, ltb}
+use Rattle.std.specs.Prelude.{cond, List, [], ◌∷◌, ◌++◌, ℕ, zero, suc, ◌+◌, ◌-◌, ◌*◌, length, eqb, ltb, Option}
 use Rattle.octets.specs.Octets.{cut, be, pasted}
 use Rattle.numbers.specs.Numbers.{no_room, refused, done}
 use Rattle.numbers.specs.declared.Answer.{Answer}
-use Rattle.bencode.specs.declared.scalar.ByteString.{ByteString}
-use Rattle.metainfo.specs.Metainfo.{bytes_in}
-use Rattle.metainfo.specs.declared.Keys.{Keys}
+use Rattle.metainfo.specs.Metainfo.{Keys, bytes_in}
+use Rattle.bencode.specs.declared.part.Part.{Part}
 use Rattle.filetree.specs.Tree.{max_elements, Element, Listed, listed, files_in}
 use Rattle.layers.specs.Layers.{root_bytes, layer_string, start_of, size_of}
-use Rattle.torrent.specs.Torrent.{checked_of}
-use Rattle.torrent.specs.declared.check.Checked.{Checked}
+use Rattle.torrent.specs.Torrent.{Checked, checked_of}
 
 -- ---- a record
 
@@ -30,7 +28,7 @@ elements_bytes base path zero = []
 elements_bytes base path (suc m) = elements_bytes base path m ++ element_bytes base path m
 
 -- 56 bytes: length, root, layer, how many path elements, four zero bytes
-unfoldable pub head_bytes : ℕ → ℕ → List ℕ → ByteString → ℕ → List ℕ
+unfoldable pub head_bytes : ℕ → ℕ → List ℕ → Option Part → ℕ → List ℕ
 head_bytes base n root layer elements =
     be 8 n ++ root ++ part_bytes (start_of base layer) (size_of layer) ++ be 4 elements ++ be 4 0
 

@@ -9,6 +9,7 @@ ghost use Rattle.octets.specs.Octets.{pasted};
 ghost use Rattle.filetree.specs.Tree.{files_in, listed};
 ghost use Rattle.filetree.specs.Count.{most_roots};
 ghost use Rattle.layers.specs.Layers.{Indexed};
+ghost use Rattle.numbers.specs.Refusals.{answer_of};
 ghost use Rattle.catalogue.specs.Catalogue.{records_of, record_size, list_answer, list_after};
 ghost use Rattle.catalogue.specs.Asks.{parts_with, Listable, SpotRight, Puts};
 
@@ -17,7 +18,7 @@ use filetree::count::{ELEMENTS, MOST_ROOTS};
 use filetree::path::{PATH, set_element};
 use filetree::token::{Token, read_token};
 use layers::index;
-use numbers::{Answer, refusal, success};
+use numbers::{Answer, Refused};
 use torrent::check::check;
 
 // The bytes of one record: 56, and 8 for each element that a path may have.
@@ -32,14 +33,15 @@ pub struct Spot {
     pub to: usize,
 }
 
-// The position past a directory, and where the next record goes; or something in it is wrong, or there is no room.
+// The position past a directory, and where the next record goes.
 #[derive(Clone, Copy)]
-pub enum Put {
-    Past { next: usize, to: usize },
-    WrongTree,
+pub struct Put {
+    pub next: usize,
+    pub to: usize,
 }
 
-// Writes the records of the files of a directory, one after the other. `path` has the elements of the path to the directory.
+// Writes the records of the files of a directory, one after the other. `path` has the elements of the path to the directory. None if
+// something in it is wrong, or there is no room.
 fn put_directory(
     tree: &[u8],
     layers: &[u8],
@@ -47,7 +49,7 @@ fn put_directory(
     path: &mut [usize],
     out: &mut [u8],
     spot: Spot,
-) -> Put
+) -> Option<Put>
     requires { Indexed layers.now keys.now spot.list.count × SpotRight (L.length tree.now) (L.length layers.now) (L.length out.old) path.old spot }
     ensures { Puts tree.now layers.now spot path.old path.new out.old out.new result }
 {
@@ -55,19 +57,16 @@ fn put_directory(
     let at = spot.at;
     let levels = spot.levels;
     if levels == 0 {
-        return Put::WrongTree;
+        return None;
     }
     let below = levels - 1;
     let depth = ELEMENTS - levels;
     let mut to = spot.to;
     let mut i = at;
     while i < tree.len() {
-        match read_token(tree, i) {
-            Token::BadToken => {
-                return Put::WrongTree;
-            }
+        match read_token(tree, i)? {
             Token::Closed => {
-                return Put::Past { next: i + 1, to };
+                return Some(Put { next: i + 1, to });
             }
             Token::Leaf {
                 start,
@@ -77,7 +76,7 @@ fn put_directory(
                 next,
             } => {
                 if out.len() - to < RECORD {
-                    return Put::WrongTree; // never: the list has room for all files
+                    return None; // never: the list has room for all files
                 }
                 set_element(path, depth, start, end);
                 let record = Record {
@@ -99,19 +98,13 @@ fn put_directory(
                     levels: below,
                     to,
                 };
-                match put_directory(tree, layers, keys, path, out, inside) {
-                    Put::Past { next, to: behind } => {
-                        to = behind;
-                        i = next;
-                    }
-                    Put::WrongTree => {
-                        return Put::WrongTree;
-                    }
-                }
+                let put = put_directory(tree, layers, keys, path, out, inside)?;
+                to = put.to;
+                i = put.next;
             }
         }
     }
-    Put::WrongTree
+    None
 }
 
 // Writes the records of all files of a torrent that gets 0; `keys` is work space, for where the keys of `piece layers` stand. They are as
@@ -131,39 +124,39 @@ fn list_in(tree: &[u8], layers: &[u8], keys: &mut [u32], out: &mut [u8], list: L
     put_directory(tree, layers, keys, &mut path, out, spot);
 }
 
-// 0 and the size of the list, which is then at the start of `out`; or 19 to 28 or 31, or 11 if `out` is too short for it.
-pub fn list(torrent: &[u8], out: &mut [u8]) -> Answer
-    ensures { (result ≡ list_answer torrent.now out.old) × (out.new ≡ list_after torrent.now out.old) }
+fn listed(torrent: &[u8], out: &mut [u8]) -> Result<u64, Refused>
+    ensures answer { answer_of result ≡ list_answer torrent.now out.old }
+    ensures left { out.new ≡ list_after torrent.now out.old }
 {
-    let c = check(torrent);
-    let number = c.keys.number;
+    let c = check(torrent)?;
     let tree = c.keys.tree.start;
     let tree_end = c.keys.tree.end;
     let layers = c.keys.layers.start;
     let layers_end = c.keys.layers.end;
-    let plen = c.keys.plen;
-    let files = c.files;
-    let count = c.layered;
-    if number == 0 {
-        let size = RECORD * files;
-        if out.len() < size {
-            return refusal(numbers::NO_ROOM);
-        }
-        let list = Listing {
-            tree,
-            layers,
-            plen,
-            count,
-        };
-        let mut keys = [0u32; MOST_ROOTS];
-        list_in(
-            &torrent[tree..tree_end],
-            &torrent[layers..layers_end],
-            &mut keys,
-            out,
-            list,
-        );
-        return success(size as u64);
+    let size = RECORD * c.files;
+    if out.len() < size {
+        return Err(Refused::NoRoom);
     }
-    refusal(number)
+    let list = Listing {
+        tree,
+        layers,
+        plen: c.keys.plen,
+        count: c.layered,
+    };
+    let mut keys = [0u32; MOST_ROOTS];
+    list_in(
+        &torrent[tree..tree_end],
+        &torrent[layers..layers_end],
+        &mut keys,
+        out,
+        list,
+    );
+    Ok(size as u64)
+}
+
+// 0 and the size of the list, which is then at the start of `out`; or 19 to 28 or 31, or 11 if `out` is too short for it.
+pub fn list(torrent: &[u8], out: &mut [u8]) -> Answer
+    ensures { (result ≡ list_answer torrent.now out.old) × (out.new ≡ list_after torrent.now out.old) }
+{
+    Answer::from(listed(torrent, out))
 }

@@ -10,7 +10,7 @@ ghost use Rattle.torrent.specs.Find.{PathGiven};
 ghost use Rattle.catalogue.specs.Catalogue.{part_bytes, head_bytes};
 ghost use Rattle.catalogue.specs.Asks.{array_element, array_elements, record_from, Forward, RecordRight};
 
-use bencode::scalar::ByteString;
+use bencode::part::Part;
 use filetree::count::ELEMENTS;
 use layers::find_layer;
 use octets::{put_hash, put_number};
@@ -65,26 +65,24 @@ fn put_elements(out: &mut [u8], at: usize, base: usize, path: &[usize], n: usize
     requires { (at + 8 * max_elements ≤ L.length out.old) × PathGiven path.now n base }
     ensures { out.new ≡ pasted out.old at (array_elements base path.now n max_elements) }
 {
-    let mut k = 0;
-    while k < ELEMENTS {
+    for k in 0..ELEMENTS {
         put_element(out, at + 8 * k, base, path, n, k);
-        k += 1;
     }
 }
 
 // Writes where a layer begins, of `piece layers` that begin at `base`, and its size; zeros if there is none.
-fn put_layer(out: &mut [u8], at: usize, base: usize, layer: ByteString)
+fn put_layer(out: &mut [u8], at: usize, base: usize, layer: Option<Part>)
     requires { (at + 8 ≤ L.length out.old) × Forward base layer }
     ensures { out.new ≡ pasted out.old at (part_bytes (start_of base layer) (size_of layer)) }
 {
     match layer {
-        ByteString::NoString => put_part(out, at, 0, 0),
-        ByteString::Content { start, end } => put_part(out, at, base + start, end - start),
+        None => put_part(out, at, 0, 0),
+        Some(Part { start, end }) => put_part(out, at, base + start, end - start),
     }
 }
 
 // Writes a record's first 56 bytes.
-fn put_head(out: &mut [u8], file: Record, root: [u8; 32], layer: ByteString)
+fn put_head(out: &mut [u8], file: Record, root: [u8; 32], layer: Option<Part>)
     requires { (file.at + 56 ≤ L.length out.old) × Forward file.list.layers layer }
     ensures { out.new ≡ pasted out.old file.at (head_bytes file.list.layers file.length root layer file.elements) }
 {
@@ -107,14 +105,14 @@ fn layer_of(
     list: Listing,
     length: usize,
     root: usize,
-) -> ByteString
+) -> Option<Part>
     requires { Indexed layers.now keys.now list.count × ((length ≡ 0 → ⊥) → root + 32 ≤ L.length tree.now) × (list.layers + L.length layers.now ≤ largest_torrent) }
     ensures { (result ≡ layer_string layers.now list.plen length (cut tree.now root 32)) × Forward list.layers result }
 {
     if has_layer(length, list.plen) {
         return find_layer(layers, keys, list.count, &tree[root..root + 32]);
     }
-    ByteString::NoString
+    None
 }
 
 // Writes the record of a file.

@@ -1,11 +1,8 @@
 -- The mark and then the hash are the cell.
 -- Assumes nothing.
-use mathlib.Core.Path.{◌≡◌, ap₂, ◌∙◌}
-use mathlib.Core.List.{List, ◌∷◌, ◌++◌}
-use Prim.Native.Nat.{ℕ, suc, ◌+◌, ◌<◌}
-use native.Mathlib.Omega.{arith}
-use lib.ListN.{length, take, drop, set}
-use lib.Seq.{take-suc-set, drop-set-lt, append_snoc}
+use Rattle.std.specs.Prelude.{◌≡◌, List, ◌∷◌, ◌++◌, ℕ, suc, ◌+◌, ◌<◌, length, take, drop, set}
+use Rattle.std.proofs.Common.{ap₂, ◌∙◌, arith, take-suc-set, drop-set-lt}
+use Rattle.std.proofs.Math.Seq.{append_snoc}
 use Rattle.octets.specs.Octets.{pasted}
 
 pub mark_then_hash : (s : List ℕ) (a : ℕ) (h : List ℕ) → a < length s → pasted (set s a 1) (suc a) h ≡ pasted s a (1 ∷ h)

@@ -1,12 +1,10 @@
 -- What `put` changes and what it leaves. Nothing above these laws looks at a store's bytes.
 -- Assumes nothing.
-use Rattle.std.specs.Prelude.{◌≡◌, List, ◌∷◌, true, false, ◌⊎◌}
+use Rattle.std.specs.Prelude.{◌≡◌, List, ◌∷◌, true, false, ◌⊎◌, ℕ, suc, ◌+◌, ◌-◌, ◌*◌, ◌≤◌, ◌<◌}
 use Rattle.std.proofs.Math.Path.{ap, sym}
-use Rattle.std.proofs.Common.{◌∙◌, lt_of_not-le}
+use Rattle.std.proofs.Common.{◌∙◌, lt_of_not-le, arith}
 use Rattle.std.proofs.Math.Logic.{inl, inr}
-use Prim.Native.Nat.{ℕ, suc, ◌+◌, ◌-◌, ◌*◌, ◌≤◌, ◌<◌}
 use Rattle.std.proofs.Math.Decide.{dec_le}
-use native.Mathlib.Omega.{arith}
 use Rattle.std.proofs.Math.ListN.{length, get_or}
 use Rattle.std.proofs.Math.Seq.{ext_get_or}
 use Rattle.std.proofs.Math.Dec.{eqb}

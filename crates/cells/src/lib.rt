@@ -31,15 +31,12 @@ pub fn put_at(store: &mut [u8], node: usize, hash: [u8; 32])
 }
 
 // Whether position `node` is not held, or held with `hash`.
+#[tactic(auto, unfolding(crate::specs::Entries::agrees_at))]
 pub fn agrees_at(store: &[u8], node: usize, hash: [u8; 32]) -> bool
     requires { Room (node + 1) store.now }
     ensures { result ≡ agrees_at store.now node hash }
 {
-    if held(store, node) {
-        octets::same(hash_of(store, node), hash)
-    } else {
-        true
-    }
+    !held(store, node) || octets::same(hash_of(store, node), hash)
 }
 
 // Position `node` becomes held with `hash`; 1 where it was not held before.
@@ -49,5 +46,5 @@ pub fn add_at(store: &mut [u8], node: usize, hash: [u8; 32]) -> u64
 {
     let was = held(store, node);
     put_at(store, node, hash);
-    if was { 0 } else { 1 }
+    u64::from(!was)
 }

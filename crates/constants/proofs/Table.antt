@@ -1,8 +1,6 @@
 -- The code's tables are the rule's, which antt computes over all entries at once.
 -- Assumes nothing.
-use mathlib.Core.Path.{◌≡◌, refl}
-use mathlib.Core.List.{List, [], ◌∷◌}
-use Prim.Native.Nat.{ℕ}
+use Rattle.std.specs.Prelude.{◌≡◌, refl, List, [], ◌∷◌, ℕ}
 use Rattle.constants.specs.Constants.{root, indivisible, primes_from, primes, root_word, K, H}
 
 unfoldable pub round_table : List ℕ

@@ -15,21 +15,15 @@ use Rattle.sha_1.specs.AnswerLaws.{sha1_in_table, beside_sha1}
 use Rattle.header.specs.Header.{header_size, request_id}
 use Rattle.serve.specs.Serve.{serve_answer, serve_after, reject_to}
 use Rattle.serve.specs.ServeLaws.{reject_length}
-use Rattle.torrent.specs.Torrent.{read_of, file_read, path_read, no_torrent, no_file_read, no_part_read}
-use Rattle.torrent.specs.declared.read.Torrent.{Torrent}
-use Rattle.torrent.specs.declared.read.FileRead.{FileRead}
-use Rattle.torrent.specs.declared.read.PartRead.{PartRead}
+use Rattle.torrent.specs.Torrent.{PartRead, FileRead, Torrent, read_of, file_read, path_read, no_torrent, no_file_read, no_part_read}
 use Rattle.catalogue.specs.Catalogue.{list_answer, list_after}
 use Rattle.writer.specs.Write.{write_answer, write_after}
 use Rattle.calls.specs.Calls.{OfTorrent, ReadOutcome, done as read_done, bad_torrent as read_refused, FileOutcome, done as file_done, bad_torrent as file_refused, no_file, PathOutcome, done as path_done, bad_torrent as path_refused, no_element, ListOutcome, done as list_done, bad_torrent as list_refused, too_short}
 use Rattle.calls.specs.CallsLaws.{read_outcome, file_outcome, path_outcome, list_outcome, list_refused_lem}
 use Rattle.about.specs.About.{info_read, name_read}
 use Rattle.about.proofs.AboutMeans.{info_outcome, name_outcome}
-use Rattle.v1.specs.V1.{no_hybrid, hybrid_of, no_piece, v1_piece_of, no_part, v1_pieces_of}
+use Rattle.v1.specs.V1.{HybridRead, V1Piece, V1Part, no_hybrid, hybrid_of, no_piece, v1_piece_of, no_part, v1_pieces_of}
 use Rattle.v1.specs.EachNumber.{HybridOutcome, done as hybrid_done, bad_torrent as hybrid_refused, hybrid_outcome, PieceOutcome, done as v1_piece_done, bad_torrent as v1_piece_refused, no_file as v1_piece_no_file, not_there as v1_piece_not_there, piece_outcome, PiecesOutcome, done as v1_pieces_done, bad_torrent as v1_pieces_refused, no_file as v1_pieces_no_file, not_there as v1_pieces_not_there, pieces_outcome}
-use Rattle.v1.specs.declared.read.HybridRead.{HybridRead}
-use Rattle.v1.specs.declared.read.V1Piece.{V1Piece}
-use Rattle.v1.specs.declared.read.V1Part.{V1Part}
 use Rattle.places.proofs.Where.{place_in_table, first_in_table, place_zeros, first_zeros}
 use Rattle.writer_promises.specs.Published.{WriteNumber, is_4, is_11, is_19, is_21, is_24_to_28, WriteOutcome, put, left as nothing_put}
 use Rattle.writer_promises.specs.Promised.{write_outcome, write_refused}

@@ -1,15 +1,12 @@
 -- What kd_torrent_list writes is a list in the form that kd_place and kd_first_piece ask for, with a record for each file of the torrent: so neither
 -- answers 4 to it.
 -- Assumes nothing.
-use Rattle.std.specs.Prelude.{◌≡◌, Bool, ◌&&◌, ℕ, zero, suc, ◌+◌, ◌*◌, ◌%◌, ◌≤◌, ◌<◌, eqb, ltb}
+use Rattle.std.specs.Prelude.{◌≡◌, Bool, ◌&&◌, ℕ, zero, suc, ◌+◌, ◌*◌, ◌%◌, ◌≤◌, ◌<◌, eqb, ltb, List, ◌++◌}
 use Rattle.std.proofs.Math.Path.{refl, ap, sym, subst}
-use Rattle.std.proofs.Common.{ap₂, ◌∙◌}
+use Rattle.std.proofs.Common.{ap₂, ◌∙◌, append_assoc, arith, eq-eqb, eqb-true, le-leb, ltb-false}
 use Rattle.std.proofs.Math.Bool.{true, false}
-use Rattle.std.proofs.lemmas.Bool.{false≢true}
-use mathlib.Core.List.{List, ◌++◌, append_assoc}
-use native.Mathlib.Omega.{arith}
+use Rattle.std.proofs.lemmas.Bool.{false≢true, eqb-false}
 use Rattle.std.proofs.Math.ListN.{length}
-use borrow.Author.Tests.{eq-eqb, eqb-true, eqb-false, le-leb, ltb-false}
 use Rattle.octets.specs.Octets.{cut, be, pasted, number_at}
 use Rattle.octets.specs.OctetsLaws.{cut_pasted_same, number_cut, number_first}
 use Rattle.numbers.specs.Numbers.{wrong_size, no_room}

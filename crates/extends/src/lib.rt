@@ -6,10 +6,11 @@ ghost use Rattle.octets.specs.Octets.{cut};
 ghost use Rattle.sha256.specs.Sha256.{sha256, pair_hash};
 ghost use Rattle.tree.specs.Values.{pad_value};
 ghost use Rattle.limits.specs.Limits.{longest_file, tallest_tree};
+ghost use Rattle.numbers.specs.Refusals.{answer_of, code_of};
 ghost use Rattle.extends.specs.Extends as E;
 ghost use Rattle.extends.specs.Asks as R;
 
-use numbers::Answer;
+use numbers::{Answer, Refused};
 use sha256::Hashed;
 use store::{file_length, held_hash, is_usable};
 use tree::geometry::{block_count, block_size, covering, height};
@@ -145,33 +146,33 @@ fn ends_of(block: &[u8], r: usize) -> Ends
 
 // ---- the answer
 
-// 6, 7 or 0: by the root worked out, and whether the block is the one held.
-fn reaches(x: Hashed, right: bool, root: [u8; 32]) -> u32
-    ensures { result ≡ R.reaches x right root }
+// By the root worked out, and whether the block is the one held: else 6 or 7.
+fn reaches(x: Hashed, right: bool, root: [u8; 32]) -> Result<(), Refused>
+    ensures { code_of result ≡ R.reaches x right root }
 {
     if x.number != 0 {
-        return numbers::NO_ANCHOR;
+        return Err(Refused::NoAnchor);
     }
     let mine = x.hash;
     let alike = octets::same(mine, root);
     if !right {
-        return numbers::DIFFERS;
+        return Err(Refused::Differs);
     }
     if alike {
-        return numbers::DONE;
+        return Ok(());
     }
-    numbers::DIFFERS
+    Err(Refused::Differs)
 }
 
 // Of an earlier file that ends inside block w.
-fn in_block(store: &[u8], length: usize, root: [u8; 32], block: &[u8]) -> u32
+fn in_block(store: &[u8], length: usize, root: [u8; 32], block: &[u8]) -> Result<(), Refused>
     requires { R.Inside store.now length block.now }
-    ensures { result ≡ E.extends_number store.now length root block.now }
+    ensures { code_of result ≡ E.extends_number store.now length root block.now }
 {
     let w = length / 16384;
     let leaf = held_hash(store, 0, w);
     if leaf.number != 0 {
-        return numbers::NO_ANCHOR;
+        return Err(Refused::NoAnchor);
     }
     let r = length % 16384;
     let ends = ends_of(block, r);
@@ -183,24 +184,24 @@ fn in_block(store: &[u8], length: usize, root: [u8; 32], block: &[u8]) -> u32
     reaches(found, right, root)
 }
 
-// What an earlier file's length and root and the block over its end get.
-fn extends_number(store: &[u8], length: usize, root: [u8; 32], block: &[u8]) -> u32
-    ensures { result ≡ E.extends_number store.now length root block.now }
+// Whether an earlier file has this length and root, by the block over its end: else 9, 3, 4, 6 or 7.
+fn begins_with(store: &[u8], length: usize, root: [u8; 32], block: &[u8]) -> Result<(), Refused>
+    ensures { code_of result ≡ E.extends_number store.now length root block.now }
 {
     let usable = is_usable(store);
     if !usable {
-        return numbers::UNUSABLE;
+        return Err(Refused::Unusable);
     }
     if length == 0 {
-        return numbers::RULE_BROKEN;
+        return Err(Refused::RuleBroken);
     }
     let most = file_length(store);
     if length > most {
-        return numbers::RULE_BROKEN;
+        return Err(Refused::RuleBroken);
     }
     let size = over_size(most, length);
     if block.len() != size {
-        return numbers::WRONG_SIZE;
+        return Err(Refused::WrongSize);
     }
     if length % 16384 != 0 {
         return in_block(store, length, root, block);
@@ -210,13 +211,16 @@ fn extends_number(store: &[u8], length: usize, root: [u8; 32], block: &[u8]) -> 
     reaches(found, true, root)
 }
 
+fn extended(store: &[u8], length: usize, root: [u8; 32], block: &[u8]) -> Result<u64, Refused>
+    ensures { answer_of result ≡ E.extends_answer store.now length root block.now }
+{
+    begins_with(store, length, root, block)?;
+    Ok(length as u64)
+}
+
 // Whether the store's file begins with an earlier one of `length` bytes: 0 with `length`. Nothing is written.
 pub fn extends(store: &[u8], length: usize, root: [u8; 32], block: &[u8]) -> Answer
     ensures { result ≡ E.extends_answer store.now length root block.now }
 {
-    let number = extends_number(store, length, root, block);
-    if number == 0 {
-        return numbers::success(length as u64);
-    }
-    numbers::refusal(number)
+    Answer::from(extended(store, length, root, block))
 }

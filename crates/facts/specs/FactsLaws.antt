@@ -4,9 +4,8 @@ use Rattle.std.specs.Prelude.{List, ◌≡◌, refl, Bool, true, false, cond, �
 use Rattle.std.proofs.Common.{sym, ◌∙◌}
 use Rattle.numbers.specs.Numbers.{unusable, InTable}
 use Rattle.numbers.specs.Chain.{Chain, last, test, decided, in_table_of}
-use Rattle.facts.specs.declared.FactsRead.{FactsRead}
 use Rattle.store.specs.Store.{usable, file_length, piece_length, facts_root, SameFacts}
-use Rattle.facts.specs.Facts.{no_facts, facts_of, facts_answer}
+use Rattle.facts.specs.Facts.{FactsRead, no_facts, facts_of, facts_answer}
 
 pub facts_given : (s : List ℕ) → usable s ≡ true → facts_answer s ≡ facts_of s
 unfolding facts_answer

@@ -2,45 +2,28 @@
 #![tactic(auto)]
 
 ghost use Rattle.std.specs.Prelude.{◌≡◌};
-ghost use Rattle.facts.specs.Facts.{no_facts, facts_answer};
+ghost use Rattle.facts.specs.Facts.{as_read, facts_answer};
 
+use numbers::Refused;
 use store::{facts_root, file_length, is_usable, piece_length_of};
 
-// 0, the file's length, the piece length and the pieces root; or 9 beside zeros.
+// The file's length and the piece length in bytes, and the pieces root.
 #[derive(Clone, Copy)]
-pub struct FactsRead {
-    pub number: u32,
+pub struct FileFacts {
     pub length: usize,
     pub plen: usize,
     pub root: [u8; 32],
 }
 
-fn no_facts(number: u32) -> FactsRead
-    ensures { result ≡ no_facts number }
+// The facts of a usable store; 9 where it is not usable.
+pub fn read_facts(store: &[u8]) -> Result<FileFacts, Refused>
+    ensures { as_read result ≡ facts_answer store.now }
 {
-    FactsRead {
-        number,
-        length: 0,
-        plen: 0,
-        root: [0u8; 32],
+    if !is_usable(store) {
+        return Err(Refused::Unusable);
     }
-}
-
-// The facts of a usable store.
-pub fn read_facts(store: &[u8]) -> FactsRead
-    ensures { result ≡ facts_answer store.now }
-{
-    let usable = is_usable(store);
-    if usable {
-        let length = file_length(store);
-        let plen = piece_length_of(store);
-        let root = facts_root(store);
-        return FactsRead {
-            number: 0,
-            length,
-            plen,
-            root,
-        };
-    }
-    no_facts(numbers::UNUSABLE)
+    let length = file_length(store);
+    let plen = piece_length_of(store);
+    let root = facts_root(store);
+    Ok(FileFacts { length, plen, root })
 }

@@ -1,12 +1,7 @@
 -- One file counted, as the code does it.
 -- Assumes nothing.
-use mathlib.Core.Path.{◌≡◌, refl}
-use mathlib.Core.Bool.{cond}
-use mathlib.Core.List.{List}
-use Prim.Native.Nat.{ℕ, ◌+◌}
-use lib.ListN.{set}
-use lib.Dec.{eqb}
-use borrow.Author.Tests.{eq-eqb, ne_eqb}
+use Rattle.std.specs.Prelude.{◌≡◌, refl, cond, List, ℕ, ◌+◌, set, eqb}
+use Rattle.std.proofs.Common.{eq-eqb, ne_eqb}
 use Rattle.filetree.specs.Count.{tally_with}
 use Rattle.filetree.specs.declared.count.Tally.{Tally}
 

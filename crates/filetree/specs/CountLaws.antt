@@ -1,22 +1,20 @@
 -- Counting, file by file: what is counted when a walk has passed the files fs, and that one file, or a directory, keeps it so.
 -- Assumes nothing.
-use Rattle.std.specs.Prelude.{◌≡◌, refl, Bool, true, false, cond, ℕ, ◌+◌, ◌-◌, ◌*◌, ◌^◌, ◌≤◌, ◌<◌, length, drop, set, eqb}
+use Rattle.filetree.specs.Count.{past}
+use Rattle.std.specs.Prelude.{◌≡◌, refl, Bool, true, false, cond, ℕ, ◌+◌, ◌-◌, ◌*◌, ◌^◌, ◌≤◌, ◌<◌, length, drop, set, eqb, List, [], ◌∷◌, ◌++◌, Option, None, unwrap_or}
 use Rattle.std.proofs.Math.Path.{sym, ap}
-use Rattle.std.proofs.Common.{◌∙◌, arith, length-append, length-set}
+use Rattle.std.proofs.Common.{◌∙◌, arith, length-append, length-set, append-nil}
 use Rattle.std.proofs.lemmas.Bool.{false≢true, eqb-false}
-use mathlib.Core.List.{List, [], ◌∷◌, ◌++◌, append-nil}
 use Rattle.limits.specs.Limits.{largest_torrent}
 use Rattle.octets.specs.Octets.{pasted}
 use Rattle.octets.specs.OctetsLaws.{pasted_append, pasted_none, set_pasted}
-use Rattle.filetree.specs.Token.{ends_here, token_at}
+use Rattle.filetree.specs.Token.{ends_here, token_at, opened_token, closed_token, leaf_token}
 use Rattle.filetree.specs.TokenLaws.{leaf_ends}
 use Rattle.filetree.specs.Tree.{max_elements, Element, Listed, listed_as, down, Files, wrong, files, files_below, files_in, right, listed, roots_of}
 use Rattle.filetree.specs.TreeLaws.{empty_tree, tree_below, FilesPassed, passed_none, passed_bad, passed_end, passed_closed, passed_file, passed_wrong, inside_ends, passed_directory}
 use Rattle.filetree.specs.Count.{most_roots, no_tally, tally_with, tally_after, counted_of, Within, Counts}
-use Rattle.filetree.specs.declared.token.Token.TheVariants.{Opened, Closed, Leaf, BadToken}
 use Rattle.filetree.specs.declared.count.Tally.{Tally}
 use Rattle.filetree.specs.declared.count.Counted.{Counted}
-use Rattle.filetree.specs.declared.count.Counted.TheVariants.{Past, WrongTree}
 
 pub further : (at k : ℕ) (c : Tally) → at ≤ k → Within at c → Within k c
 further at k c h w = let x = w.few_files in let y = w.few_roots in record { few_files = omega arith; few_roots = omega arith }
@@ -66,15 +64,17 @@ unfolding tally_after
 roots_so c d fs e = ap (λ (z : Tally). z.roots) e
 
 -- a count tells what was counted
-only_wrong : (c : Tally) (x : Files) → WrongTree ≡ counted_of c x → x ≡ wrong
+only_wrong : (c : Tally) (x : Files) → None ≡ counted_of c x → x ≡ wrong
 unfolding counted_of
 only_wrong c wrong g = refl
 only_wrong c (files gs k) g = let z : ◌≡◌ {A = ℕ} 0 1 = cc in absurd (omega arith)
 
-only_right : (c : Tally) (k : ℕ) (d : Tally) (x : Files) → Past k d ≡ counted_of c x → (gs : List Listed) × (x ≡ files gs k) × (d ≡ tally_after c gs)
+only_right : (c : Tally) (k : ℕ) (d : Tally) (x : Files) → past k d ≡ counted_of c x → (gs : List Listed) × (x ≡ files gs k) × (d ≡ tally_after c gs)
 unfolding counted_of
 only_right c k d wrong g = let z : ◌≡◌ {A = ℕ} 0 1 = cc in absurd (omega arith)
-only_right c k d (files gs j) g = let p : k ≡ j = cc in let q : d ≡ tally_after c gs = cc in (gs, ap (files gs) (sym p), q)
+only_right c k d (files gs j) g =
+    let the : Option Counted → Counted = λ w. unwrap_or w (record { next = k; tally = d }) in
+    (gs, ap (λ w. files gs (the w).next) (sym g), ap (λ w. (the w).tally) g)
 
 right_files : (x : Files) (gs : List Listed) (k : ℕ) → x ≡ files gs k → (right x ≡ true) × (listed x ≡ gs)
 unfolding right listed
@@ -105,7 +105,7 @@ roots_one n r path = refl
 
 -- a directory that is wrong
 pub counts_wrong : (t : List ℕ) (at levels : ℕ) (before : Tally) (roots after : List ℕ) → ((path : List Element) → files_below levels t at path ≡ wrong)
-    → Counts t at levels before roots after WrongTree
+    → Counts t at levels before roots after None
 unfolding counted_of right
 counts_wrong t at levels before roots after h =
     record { counted = λ path. sym (ap (counted_of before) (h path)); kept = λ path e. absurd (false≢true (sym (ap right (h path)) ∙ e)); within = tt }
@@ -114,18 +114,18 @@ module _ {t : List ℕ} {at levels : ℕ} {before : Tally} {roots₀ roots : Lis
   abbrev whole : List Element → Files
   whole path = files_below levels t at path
 
-  pub counts_bad : token_at t i ≡ BadToken → Counts t at levels before roots₀ roots WrongTree
+  pub counts_bad : token_at t i ≡ None → Counts t at levels before roots₀ roots None
   counts_bad e = counts_wrong t at levels before roots₀ roots (λ path. passed_bad t (whole path) below path i (w.passed path).0 (w.passed path).1 e)
 
-  pub counts_end : length t ≤ i → Counts t at levels before roots₀ roots WrongTree
+  pub counts_end : length t ≤ i → Counts t at levels before roots₀ roots None
   counts_end h = counts_wrong t at levels before roots₀ roots (λ path. passed_end t (whole path) below path i (w.passed path).0 (w.passed path).1 h)
 
   module _ (h : i < length t) where
-    pub counts_closed : token_at t i ≡ Closed → Counts t at levels before roots₀ roots (Past (i + 1) c)
+    pub counts_closed : token_at t i ≡ closed_token → Counts t at levels before roots₀ roots (past (i + 1) c)
     unfolding counted_of listed
     counts_closed e =
         record {
-          counted = λ path. sym (ap (counted_of before) (is path) ∙ ap (Past (i + 1)) (sym (w.passed path).2));
+          counted = λ path. sym (ap (counted_of before) (is path) ∙ ap (past (i + 1)) (sym (w.passed path).2));
           kept = λ path q. (w.passed path).3 ∙ ap (λ (z : Files). pasted roots₀ before.roots (roots_of (listed z))) (sym (is path));
           within = further i (i + 1) c (omega arith) w.within;
         }
@@ -136,7 +136,7 @@ module _ {t : List ℕ} {at levels : ℕ} {before : Tally} {roots₀ roots : Lis
     pub room_left : length t ≤ largest_torrent → c.roots < length roots
     room_left l = let x = w.within.few_roots in let y = w.sized in omega arith
 
-    module _ {a b n r k : ℕ} (e : token_at t i ≡ Leaf a b n r k) (l : length t ≤ largest_torrent) where
+    module _ {a b n r k : ℕ} (e : token_at t i ≡ leaf_token a b n r k) (l : length t ≤ largest_torrent) where
       pub file_asked : Within largest_torrent c × (c.roots < length roots) × ((n ≡ 0 → ⊥) → r < 2 ^ 32)
       file_asked = (further i largest_torrent c (omega arith) w.within, room_left l, λ z. let x = ((leaf_ends t i a b n r k e).2 z).1 in omega arith)
 
@@ -183,14 +183,14 @@ module _ {t : List ℕ} {at levels : ℕ} {before : Tally} {roots₀ roots : Lis
                   set_pasted roots c.roots r x
                   ∙ kept_more roots₀ roots (roots_of (w.passed path).0) (r ∷ []) before.roots c.roots (w.passed path).3 (roots_so before c (w.passed path).0 (w.passed path).2) (omega arith)
 
-    module _ {a b : ℕ} (e : token_at t i ≡ Opened a b) (roots' : List ℕ) where
-      pub counts_inside : Counts t (b + 1) below c roots roots' WrongTree → Counts t at levels before roots₀ roots' WrongTree
+    module _ {a b : ℕ} (e : token_at t i ≡ opened_token a b) (roots' : List ℕ) where
+      pub counts_inside : Counts t (b + 1) below c roots roots' None → Counts t at levels before roots₀ roots' None
       counts_inside q = counts_wrong t at levels before roots₀ roots' (λ path. passed_wrong t (whole path) below path i (w.passed path).0 (w.passed path).1 h a b e (is path))
         where
           is : (path : List Element) → files_below below t (b + 1) (down path a b) ≡ wrong
           is path = only_wrong c (files_below below t (b + 1) (down path a b)) (q.counted (down path a b))
 
-      module _ (k : ℕ) (c' : Tally) (q : Counts t (b + 1) below c roots roots' (Past k c')) (sized' : length roots' ≡ length roots) (l : length t ≤ largest_torrent) where
+      module _ (k : ℕ) (c' : Tally) (q : Counts t (b + 1) below c roots roots' (past k c')) (sized' : length roots' ≡ length roots) (l : length t ≤ largest_torrent) where
         inside : (path : List Element) → (gs : List Listed) × (files_below below t (b + 1) (down path a b) ≡ files gs k) × (c' ≡ tally_after c gs)
         inside path = only_right c k c' (files_below below t (b + 1) (down path a b)) (q.counted (down path a b))
 
@@ -225,14 +225,14 @@ module _ {t : List ℕ} {at levels : ℕ} {before : Tally} {roots₀ roots : Lis
 -- ---- the whole tree
 
 -- what counting says of a tree
-abbrev pub CountedTree : List ℕ → List ℕ → List ℕ → Counted → Type 0
+abbrev pub CountedTree : List ℕ → List ℕ → List ℕ → Option Counted → Type 0
 CountedTree t roots after r =
     (r ≡ counted_of no_tally (files_in t)) × (right (files_in t) ≡ true → after ≡ pasted roots 0 (roots_of (listed (files_in t))))
 
 module _ (t roots after : List ℕ) where
-  pub tree_empty : ends_here (drop 1 t) ≡ true → CountedTree t roots after WrongTree
+  pub tree_empty : ends_here (drop 1 t) ≡ true → CountedTree t roots after None
   unfolding counted_of right
   tree_empty e = rw (empty_tree t e) (refl, λ q. absurd (false≢true q))
 
-  pub tree_counted : ends_here (drop 1 t) ≡ false → (r : Counted) → Counts t 1 max_elements no_tally roots after r → CountedTree t roots after r
+  pub tree_counted : ends_here (drop 1 t) ≡ false → (r : Option Counted) → Counts t 1 max_elements no_tally roots after r → CountedTree t roots after r
   tree_counted e r q = rw (tree_below t e) (q.counted [], q.kept [])

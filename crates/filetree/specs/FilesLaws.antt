@@ -1,6 +1,6 @@
 -- What is true of each file of a tree; a file by its number.
 -- Assumes nothing.
-use Rattle.std.specs.Prelude.{◌≡◌, refl, Bool, true, false, cond, List, [], ◌∷◌, ◌++◌, ℕ, zero, suc, ◌+◌, ◌-◌, ◌≤◌, ◌<◌, length, drop, get_or, eqb}
+use Rattle.std.specs.Prelude.{◌≡◌, refl, Bool, true, false, cond, List, [], ◌∷◌, ◌++◌, ℕ, zero, suc, ◌+◌, ◌≤◌, ◌<◌, length, drop, get_or, eqb, Option, Some, None}
 use Rattle.std.proofs.Common.{arith, length-append}
 use Rattle.std.proofs.lemmas.Bool.{eqb-false}
 use Rattle.limits.specs.Limits.{longest_file}
@@ -9,7 +9,7 @@ use Rattle.filetree.specs.TokenLaws.{TokenIn, token_in}
 use Rattle.filetree.specs.Tree.{max_elements, Element, Listed, listed_as, down, Files, wrong, files, after, onward, on_token, files_from, files_below, files_in, listed, file_number, roots_of}
 use Rattle.filetree.specs.PathLaws.{element_number}
 use Rattle.filetree.specs.declared.token.Token.{Token}
-use Rattle.filetree.specs.declared.token.Token.TheVariants.{Opened, Closed, Leaf, BadToken}
+use Rattle.filetree.specs.declared.token.Token.TheVariants.{Opened, Closed, Leaf}
 
 -- each element lies within the bytes
 abbrev pub PathRight : ℕ → List Element → Type 0
@@ -66,11 +66,11 @@ from_right l t below (suc n) at path w = by_token (token_at t at) (token_in t at
     by_sub wrong p later = tt
     by_sub (files fs k) p later = after_right (length t) fs (files_from (files_below l t) n t k path) p (later k)
 
-    by_token : (x : Token) → TokenIn at (length t) x → Later → AllRight (length t) (listed (on_token (files_below l t) (λ k. files_from (files_below l t) n t k path) at path x))
-    by_token BadToken p later = tt
-    by_token Closed p later = tt
-    by_token (Opened a b) p later = let q = p.1 in by_sub (files_below l t (b + 1) (down path a b)) (below (b + 1) (down path a b) (deeper a b p.2 (omega arith))) later
-    by_token (Leaf a b m r k) p later =
+    by_token : (x : Option Token) → TokenIn at (length t) x → Later → AllRight (length t) (listed (on_token (files_below l t) (λ k. files_from (files_below l t) n t k path) at path x))
+    by_token None p later = tt
+    by_token (Some Closed) p later = tt
+    by_token (Some (Opened a b)) p later = let q = p.1 in by_sub (files_below l t (b + 1) (down path a b)) (below (b + 1) (down path a b) (deeper a b p.2 (omega arith))) later
+    by_token (Some (Leaf a b m r k)) p later =
         let d = deeper a b p.4 p.5 in
         let few = d.1 in
         after_right (length t) (listed_as m r (down path a b) ∷ []) (files_from (files_below l t) n t k path)

@@ -1,6 +1,6 @@
 -- The array holds the path to where a walk has come.
 -- Assumes nothing.
-use Rattle.std.specs.Prelude.{◌≡◌, refl, List, [], ◌∷◌, ◌++◌, ℕ, zero, suc, ◌+◌, ◌-◌, ◌*◌, ◌≤◌, ◌<◌, length, take, set, get_or}
+use Rattle.std.specs.Prelude.{◌≡◌, refl, List, [], ◌∷◌, ◌++◌, ℕ, zero, suc, ◌+◌, ◌*◌, ◌≤◌, ◌<◌, length, take, set, get_or}
 use Rattle.std.proofs.Common.{sym, ap, ◌∙◌, arith, length-set, take-suc-set, get_or-take, length-take-le}
 use Rattle.std.proofs.lemmas.List.{take-set-le}
 use Rattle.filetree.specs.Tree.{max_elements, Element, down}

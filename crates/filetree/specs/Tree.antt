@@ -1,11 +1,11 @@
 -- 01, "The torrent", 25: the files of the part t of a torrent that is the value of `file tree`, from its `d` to its `e`, in tree order.
 -- Positions are positions in t. A directory inside takes a level; nodes side by side take a step each.
 -- Assumes nothing.
-use Rattle.std.specs.Prelude.{Bool, true, false, cond, List, [], ◌∷◌, ◌++◌, ℕ, zero, suc, ◌+◌, ◌-◌, length, drop, eqb}
+use Rattle.std.specs.Prelude.{Bool, true, false, cond, List, [], ◌∷◌, ◌++◌, ℕ, zero, suc, ◌+◌, ◌-◌, length, drop, eqb, Option, Some, None}
 use Rattle.limits.specs.Limits.{max_levels}
 use Rattle.filetree.specs.Token.{ends_here, token_at}
 use Rattle.filetree.specs.declared.token.Token.{Token}
-use Rattle.filetree.specs.declared.token.Token.TheVariants.{Opened, Closed, Leaf, BadToken}
+use Rattle.filetree.specs.declared.token.Token.TheVariants.{Opened, Closed, Leaf}
 
 -- with the file's dictionary, `file tree`, `info` and the torrent a path of so many elements has 32 levels
 abbrev pub max_elements : ℕ
@@ -45,11 +45,11 @@ onward wrong go = wrong
 onward (files fs k) go = after fs (go k)
 
 -- from one token on; `sub` has the files of a directory inside, `go` those from a position of this one on
-abbrev pub on_token : (ℕ → List Element → Files) → (ℕ → Files) → ℕ → List Element → Token → Files
-on_token sub go at path BadToken = wrong
-on_token sub go at path Closed = files [] (at + 1)
-on_token sub go at path (Opened a b) = onward (sub (b + 1) (down path a b)) go
-on_token sub go at path (Leaf a b n r k) = after (listed_as n r (down path a b) ∷ []) (go k)
+abbrev pub on_token : (ℕ → List Element → Files) → (ℕ → Files) → ℕ → List Element → Option Token → Files
+on_token sub go at path None = wrong
+on_token sub go at path (Some Closed) = files [] (at + 1)
+on_token sub go at path (Some (Opened a b)) = onward (sub (b + 1) (down path a b)) go
+on_token sub go at path (Some (Leaf a b n r k)) = after (listed_as n r (down path a b) ∷ []) (go k)
 
 -- each token takes a byte, so that more steps than bytes are enough
 unfoldable pub files_from : (ℕ → List Element → Files) → ℕ → List ℕ → ℕ → List Element → Files

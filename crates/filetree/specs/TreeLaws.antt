@@ -1,16 +1,15 @@
 -- How far a walk over a directory has come: the files passed, and that what is left gives the rest. Each walk of the tree goes on by these
 -- steps, whatever it does at a file.
 -- Assumes nothing.
-use Rattle.std.specs.Prelude.{◌≡◌, true, false, List, [], ◌∷◌, ◌++◌, length, drop}
+use Rattle.std.specs.Prelude.{◌≡◌, true, false, List, [], ◌∷◌, ◌++◌, length, drop, ℕ, zero, suc, ◌+◌, ◌-◌, ◌≤◌, ◌<◌, Option, Some, None}
 use Rattle.std.proofs.Math.Path.{refl, ap}
 use Rattle.std.proofs.Common.{sym, ◌∙◌, append_assoc, append-nil, arith}
 use Rattle.std.proofs.lemmas.Bool.{false≢true}
-use Prim.Native.Nat.{ℕ, zero, suc, ◌+◌, ◌-◌, ◌≤◌, ◌<◌}
-use Rattle.filetree.specs.Token.{ends_here, token_at}
+use Rattle.filetree.specs.Token.{ends_here, token_at, opened_token, closed_token, leaf_token}
 use Rattle.filetree.specs.TokenLaws.{TokenIn, token_in, token_none, opened_ends, leaf_ends}
 use Rattle.filetree.specs.Tree.{max_elements, Element, Listed, listed_as, down, Files, wrong, files, after, onward, on_token, files_from, files_below, files_in, right}
 use Rattle.filetree.specs.declared.token.Token.{Token}
-use Rattle.filetree.specs.declared.token.Token.TheVariants.{Opened, Closed, Leaf, BadToken}
+use Rattle.filetree.specs.declared.token.Token.TheVariants.{Opened, Closed, Leaf}
 
 -- ---- files behind others
 
@@ -63,11 +62,11 @@ from_in sub t hs (suc n) at path = by_token (token_at t at) (token_in t at) (λ 
     by_sub b wrong h p later = tt
     by_sub b (files fs k) h p later = let g = p.0 in after_in at k (length t) fs (files_from sub n t k path) (omega arith) (later k)
 
-    by_token : (x : Token) → TokenIn at (length t) x → Later → EndIn at (length t) (on_token sub (λ k. files_from sub n t k path) at path x)
-    by_token BadToken p later = tt
-    by_token Closed p later = (omega arith, omega arith)
-    by_token (Opened a b) p later = by_sub b (sub (b + 1) (down path a b)) p.0 (hs (b + 1) (down path a b)) later
-    by_token (Leaf a b m r k) p later = let g = p.0 in after_in at k (length t) (listed_as m r (down path a b) ∷ []) (files_from sub n t k path) (omega arith) (later k)
+    by_token : (x : Option Token) → TokenIn at (length t) x → Later → EndIn at (length t) (on_token sub (λ k. files_from sub n t k path) at path x)
+    by_token None p later = tt
+    by_token (Some Closed) p later = (omega arith, omega arith)
+    by_token (Some (Opened a b)) p later = by_sub b (sub (b + 1) (down path a b)) p.0 (hs (b + 1) (down path a b)) later
+    by_token (Some (Leaf a b m r k)) p later = let g = p.0 in after_in at k (length t) (listed_as m r (down path a b) ∷ []) (files_from sub n t k path) (omega arith) (later k)
 
 below_in : (l : ℕ) (t : List ℕ) (at : ℕ) (path : List Element) → EndIn at (length t) (files_below l t at path)
 unfolding files_below
@@ -99,7 +98,7 @@ module _ (t : List ℕ) where
   unfolding files_in
   tree_below e = rw e refl
 
-from_step : (sub : ℕ → List Element → Files) (n : ℕ) (t : List ℕ) (at : ℕ) (path : List Element) (x : Token) → token_at t at ≡ x
+from_step : (sub : ℕ → List Element → Files) (n : ℕ) (t : List ℕ) (at : ℕ) (path : List Element) (x : Option Token) → token_at t at ≡ x
     → files_from sub (suc n) t at path ≡ on_token sub (λ k. files_from sub n t k path) at path x
 unfolding files_from
 from_step sub n t at path x e = ap (on_token sub (λ k. files_from sub n t k path) at path) e
@@ -117,19 +116,19 @@ passed_none t levels at path h =
     record { steps = suc (length t); enough = omega arith; rest = a_level levels t at path h ∙ sym (after_none (files_from (files_below (levels - 1) t) (suc (length t)) t at path)) }
 
 module _ (t : List ℕ) (whole : Files) (below : ℕ) (path : List Element) (i : ℕ) (fs : List Listed) (w : FilesPassed t whole below path i fs) where
-  from_bad : (n : ℕ) → token_at t i ≡ BadToken → files_from (files_below below t) n t i path ≡ wrong
+  from_bad : (n : ℕ) → token_at t i ≡ None → files_from (files_below below t) n t i path ≡ wrong
   unfolding files_from
   from_bad zero e = refl
   from_bad (suc n) e = ap (on_token (files_below below t) (λ k. files_from (files_below below t) n t k path) i path) e
 
-  pub passed_bad : token_at t i ≡ BadToken → whole ≡ wrong
+  pub passed_bad : token_at t i ≡ None → whole ≡ wrong
   passed_bad e = w.rest ∙ ap (after fs) (from_bad w.steps e)
 
   pub passed_end : length t ≤ i → whole ≡ wrong
   passed_end h = passed_bad (token_none t i h)
 
   module _ (h : i < length t) where
-    by_token : (x : Token) → token_at t i ≡ x
+    by_token : (x : Option Token) → token_at t i ≡ x
         → (steps : ℕ) × (length t < i + 1 + steps) × (whole ≡ after fs (on_token (files_below below t) (λ k. files_from (files_below below t) steps t k path) i path x))
     by_token x e = on w.steps w.enough w.rest
       where
@@ -138,20 +137,20 @@ module _ (t : List ℕ) (whole : Files) (below : ℕ) (path : List Element) (i :
         on zero g q = absurd (omega arith)
         on (suc n) g q = (n, omega arith, q ∙ ap (after fs) (from_step (files_below below t) n t i path x e))
 
-    pub passed_closed : token_at t i ≡ Closed → whole ≡ files fs (i + 1)
-    passed_closed e = (by_token Closed e).2 ∙ ap (λ (x : List Listed). files x (i + 1)) (append-nil fs)
+    pub passed_closed : token_at t i ≡ closed_token → whole ≡ files fs (i + 1)
+    passed_closed e = (by_token closed_token e).2 ∙ ap (λ (x : List Listed). files x (i + 1)) (append-nil fs)
 
-    module _ (a b n r k : ℕ) (e : token_at t i ≡ Leaf a b n r k) where
+    module _ (a b n r k : ℕ) (e : token_at t i ≡ leaf_token a b n r k) where
       pub passed_file : FilesPassed t whole below path k (fs ++ listed_as n r (down path a b) ∷ [])
       passed_file =
-          let x = by_token (Leaf a b n r k) e in
+          let x = by_token (leaf_token a b n r k) e in
           let y = x.1 in
           let z = (leaf_ends t i a b n r k e).0 in
           record { steps = x.0; enough = omega arith; rest = x.2 ∙ after_after fs (listed_as n r (down path a b) ∷ []) (files_from (files_below below t) x.0 t k path) }
 
-    module _ (a b : ℕ) (e : token_at t i ≡ Opened a b) where
+    module _ (a b : ℕ) (e : token_at t i ≡ opened_token a b) where
       pub passed_wrong : files_below below t (b + 1) (down path a b) ≡ wrong → whole ≡ wrong
-      passed_wrong q = let x = by_token (Opened a b) e in x.2 ∙ ap (λ (z : Files). after fs (onward z (λ k. files_from (files_below below t) x.0 t k path))) q
+      passed_wrong q = let x = by_token (opened_token a b) e in x.2 ∙ ap (λ (z : Files). after fs (onward z (λ k. files_from (files_below below t) x.0 t k path))) q
 
       module _ (gs : List Listed) (k : ℕ) (q : files_below below t (b + 1) (down path a b) ≡ files gs k) where
         pub inside_ends : (i < k) × (k ≤ length t)
@@ -163,7 +162,7 @@ module _ (t : List ℕ) (whole : Files) (below : ℕ) (path : List Element) (i :
 
         pub passed_directory : FilesPassed t whole below path k (fs ++ gs)
         passed_directory =
-            let x = by_token (Opened a b) e in
+            let x = by_token (opened_token a b) e in
             let y = x.1 in
             let z = inside_ends.0 in
             record {

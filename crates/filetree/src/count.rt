@@ -23,11 +23,11 @@ pub struct Tally {
     pub roots: usize,
 }
 
-// The position past a directory and what is counted then; or something in it is wrong.
+// The position past a directory and what is counted then.
 #[derive(Clone, Copy)]
-pub enum Counted {
-    Past { next: usize, tally: Tally },
-    WrongTree,
+pub struct Counted {
+    pub next: usize,
+    pub tally: Tally,
 }
 
 // The root's position goes behind the `full` that are there, if the file is not empty; how many there are then.
@@ -54,30 +54,28 @@ fn count_file(tally: Tally, length: usize, root: usize, roots: &mut [u32]) -> Ta
     }
 }
 
-// The files of a directory, from its first entry on, with so many levels left below it: each directory inside takes one.
+// The files of a directory, from its first entry on, with so many levels left below it: each directory inside takes one. None if something
+// in it is wrong.
 fn count_directory(
     tree: &[u8],
     at: usize,
     levels: usize,
     before: Tally,
     roots: &mut [u32],
-) -> Counted
+) -> Option<Counted>
     requires { (L.length tree.now ≤ largest_torrent) × (L.length roots.old ≡ most_roots) × Within at before }
     ensures { Counts tree.now at levels before roots.old roots.new result }
 {
     if levels == 0 {
-        return Counted::WrongTree;
+        return None;
     }
     let below = levels - 1;
     let mut i = at;
     let mut tally = before;
     while i < tree.len() {
-        match read_token(tree, i) {
-            Token::BadToken => {
-                return Counted::WrongTree;
-            }
+        match read_token(tree, i)? {
             Token::Closed => {
-                return Counted::Past { next: i + 1, tally };
+                return Some(Counted { next: i + 1, tally });
             }
             Token::Leaf {
                 start: _,
@@ -89,37 +87,24 @@ fn count_directory(
                 tally = count_file(tally, length, root, roots);
                 i = next;
             }
-            Token::Opened { start: _, end } => match count_directory(
-                tree,
-                end + 1,
-                below,
-                tally,
-                roots,
-            ) {
-                Counted::Past {
-                    next,
-                    tally: inside,
-                } => {
-                    tally = inside;
-                    i = next;
-                }
-                Counted::WrongTree => {
-                    return Counted::WrongTree;
-                }
-            },
+            Token::Opened { start: _, end } => {
+                let inside = count_directory(tree, end + 1, below, tally, roots)?;
+                tally = inside.tally;
+                i = inside.next;
+            }
         }
     }
-    Counted::WrongTree
+    None
 }
 
-// The files of `file tree`, whose part `tree` is. If the tree is right, the positions of the roots of those that are not empty are then at
+// The files of `file tree`, whose part `tree` is; none if it is wrong. If it is right, the positions of the roots of those that are not empty are then at
 // the start of `roots`, in order.
-pub fn count_files(tree: &[u8], roots: &mut [u32]) -> Counted
+pub fn count_files(tree: &[u8], roots: &mut [u32]) -> Option<Counted>
     requires { (L.length tree.now ≤ largest_torrent) × (L.length roots.old ≡ most_roots) }
     ensures { (result ≡ counted_of no_tally (files_in tree.now)) × (right (files_in tree.now) ≡ true → roots.new ≡ pasted roots.old 0 (roots_of (listed (files_in tree.now)))) }
 {
     if ends_here(tree, 1) {
-        return Counted::WrongTree; // an empty one
+        return None; // an empty one
     }
     let none = Tally { files: 0, roots: 0 };
     count_directory(tree, 1, ELEMENTS, none, roots)

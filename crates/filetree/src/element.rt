@@ -18,12 +18,10 @@ fn bytes_right(bytes: &[u8], start: usize, size: usize) -> bool
     requires { start + size ≤ length bytes.now }
     ensures { result ≡ without slash (cut bytes.now start size) && without 0 (cut bytes.now start size) }
 {
-    let mut i = 0;
-    while i < size {
+    for i in 0..size {
         if forbidden(bytes[start + i]) {
             return false;
         }
-        i += 1;
     }
     true
 }

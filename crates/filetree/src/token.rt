@@ -5,14 +5,14 @@ ghost use Rattle.bencode.specs.Scalar.{read_string};
 ghost use Rattle.filetree.specs.Token.{ends_here, past_file, file_token, first_key, node_token, token_at};
 
 use crate::element::element_right;
-use crate::file::{File, read_file};
+use crate::file::read_file;
+use bencode::part::Part;
 use bencode::parts::is_dictionary;
-use bencode::scalar::{ByteString, read_string};
-use bencode::walk::{Walked, value_end};
+use bencode::scalar::read_string;
+use bencode::walk::value_end;
 use limits::LEVELS;
 
-// What stands next in an open directory: a directory inside, with its key; the directory's end; a file, with its key; or something
-// that may not stand there.
+// What stands next in an open directory: a directory inside, with its key; the directory's end; or a file, with its key.
 #[derive(Clone, Copy)]
 pub enum Token {
     Opened {
@@ -27,7 +27,6 @@ pub enum Token {
         root: usize,
         next: usize,
     },
-    BadToken,
 }
 
 // Whether a dictionary ends at `at`.
@@ -41,80 +40,84 @@ pub fn ends_here(tree: &[u8], at: usize) -> bool
 }
 
 // The file with key start..end, length and root, whose dictionary is at `at`: it is all that its node has.
-fn past_file(tree: &[u8], start: usize, end: usize, length: usize, root: usize, at: usize) -> Token
+fn past_file(
+    tree: &[u8],
+    start: usize,
+    end: usize,
+    length: usize,
+    root: usize,
+    at: usize,
+) -> Option<Token>
     ensures { result ≡ past_file tree.now start end length root at }
 {
     match value_end(tree, at, LEVELS) {
-        Walked::Broken => Token::BadToken,
-        Walked::TooDeep => Token::BadToken,
-        Walked::Past(k) => {
+        Err(_) => None,
+        Ok(k) => {
             if ends_here(tree, k) {
-                return Token::Leaf {
+                return Some(Token::Leaf {
                     start,
                     end,
                     length,
                     root,
                     next: k + 1,
-                };
+                });
             }
-            Token::BadToken
+            None
         }
     }
 }
 
 // The file with key start..end, whose dictionary is at `at`.
-fn file_token(tree: &[u8], start: usize, end: usize, at: usize) -> Token
+fn file_token(tree: &[u8], start: usize, end: usize, at: usize) -> Option<Token>
     ensures { result ≡ file_token tree.now start end at }
 {
-    match read_file(tree, at) {
-        File::WrongFile => Token::BadToken,
-        File::Right { length, root } => past_file(tree, start, end, length, root, at),
-    }
+    let file = read_file(tree, at)?;
+    past_file(tree, start, end, file.length, file.root, at)
 }
 
 // The node with key start..end, by its first key at `at`.
-fn first_key(tree: &[u8], start: usize, end: usize, at: usize) -> Token
+fn first_key(tree: &[u8], start: usize, end: usize, at: usize) -> Option<Token>
     ensures { result ≡ first_key tree.now start end (read_string at (drop at tree.now)) }
 {
     match read_string(tree, at) {
-        ByteString::NoString => Token::BadToken,
-        ByteString::Content { start: a, end: b } => {
+        None => None,
+        Some(Part { start: a, end: b }) => {
             if a == b {
                 return file_token(tree, start, end, b);
             }
-            Token::Opened { start, end }
+            Some(Token::Opened { start, end })
         }
     }
 }
 
 // The node with key start..end: a dictionary, and not an empty one.
-fn node_token(tree: &[u8], start: usize, end: usize) -> Token
+fn node_token(tree: &[u8], start: usize, end: usize) -> Option<Token>
     ensures { result ≡ node_token tree.now start end }
 {
     if is_dictionary(tree, end) {
         let at = end + 1;
         if ends_here(tree, at) {
-            return Token::BadToken; // an empty directory
+            return None; // an empty directory
         }
         return first_key(tree, start, end, at);
     }
-    Token::BadToken
+    None
 }
 
-// The token at `at`. Each key here is a path element.
-pub fn read_token(tree: &[u8], at: usize) -> Token
+// The token at `at`, if one may stand there. Each key here is a path element.
+pub fn read_token(tree: &[u8], at: usize) -> Option<Token>
     ensures { result ≡ token_at tree.now at }
 {
     if ends_here(tree, at) {
-        return Token::Closed;
+        return Some(Token::Closed);
     }
     match read_string(tree, at) {
-        ByteString::NoString => Token::BadToken,
-        ByteString::Content { start, end } => {
+        None => None,
+        Some(Part { start, end }) => {
             if element_right(tree, start, end - start) {
                 return node_token(tree, start, end);
             }
-            Token::BadToken // no path element
+            None // no path element
         }
     }
 }

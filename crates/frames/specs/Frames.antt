@@ -1,11 +1,15 @@
 -- 02, request 9 (BEP 3): the known ids and the sizes of their messages; the frame of a message, and what the writer answers and leaves.
 -- Assumes nothing.
-use Rattle.std.specs.Prelude.{List, [], ◌∷◌, ◌++◌, Bool, true, false, cond, ◌&&◌, ℕ, ◌+◌, ◌<◌, length, eqb, ltb, leb}
+use Rattle.std.specs.Prelude.{◌≡◌, List, [], ◌∷◌, ◌++◌, Bool, true, cond, ◌&&◌, ℕ, ◌+◌, ◌<◌, length, eqb, ltb, leb, Option, Some, None, is_some, Result, Ok, Err}
 use Rattle.octets.specs.Octets.{pasted, be}
 use Rattle.numbers.specs.Numbers.{no_message, no_room, frame_too_long, refused, done}
 use Rattle.numbers.specs.declared.Answer.{Answer}
 use Rattle.limits.specs.Limits.{longest_frame}
+use Rattle.frames.specs.declared.Id.{Id}
+use Rattle.frames.specs.declared.Id.TheVariants.{Choke, Unchoke, Interested, NotInterested, Have, Bitfield, Request, Piece, Cancel, Extended, HashRequest, Hashes, HashReject}
+use Rattle.frames.specs.declared.UnknownId.{UnknownId}
 use Rattle.frames.specs.declared.Sizes.{Sizes}
+use Rattle.frames.specs.declared.Sizes.TheVariants.{Exactly, AtLeast}
 
 -- strings of bytes
 unfoldable pub Bytes : List ℕ → Type 0
@@ -53,20 +57,33 @@ hashes_id = 22
 abbrev pub hash_reject_id : ℕ
 hash_reject_id = 23
 
--- ---- the table: each known id with the least bytes that its messages have, the id among them, and whether they may have more
+-- by its name in the code
+abbrev pub number_of : Id → ℕ
+number_of Choke = choke_id
+number_of Unchoke = unchoke_id
+number_of Interested = interested_id
+number_of NotInterested = not_interested_id
+number_of Have = have_id
+number_of Bitfield = bitfield_id
+number_of Request = request_id
+number_of Piece = piece_id
+number_of Cancel = cancel_id
+number_of Extended = extended_id
+number_of HashRequest = hash_request_id
+number_of Hashes = hashes_id
+number_of HashReject = hash_reject_id
 
-abbrev pub sized : ℕ → Bool → Sizes
-sized n more = record { least = n; longer = more }
+-- ---- the table: each known id with the sizes of its messages in bytes, the id among them: exactly so many, or at least
 
 pub record Kind : Type 0 where
   pub id : ℕ
   pub sizes : Sizes
 
 abbrev pub exactly : ℕ → ℕ → Kind
-exactly i n = record { id = i; sizes = sized n false }
+exactly i n = record { id = i; sizes = Exactly n }
 
 abbrev pub at_least : ℕ → ℕ → Kind
-at_least i n = record { id = i; sizes = sized n true }
+at_least i n = record { id = i; sizes = AtLeast n }
 
 unfoldable pub table : List Kind
 table =
@@ -74,24 +91,35 @@ table =
     ∷ exactly request_id 13 ∷ at_least piece_id 9 ∷ exactly cancel_id 13 ∷ at_least extended_id 2 ∷ exactly hash_request_id 49 ∷ at_least hashes_id 49
     ∷ exactly hash_reject_id 49 ∷ []
 
--- an id that does not stand there has no size: its least is 0, and no message is without its id
-unfoldable pub sizes_in : List Kind → ℕ → Sizes
-sizes_in [] i = sized 0 false
-sizes_in (k ∷ ks) i = cond (eqb i k.id) k.sizes (sizes_in ks i)
+-- an id that does not stand there has no size
+unfoldable pub sizes_in : List Kind → ℕ → Option Sizes
+sizes_in [] i = None
+sizes_in (k ∷ ks) i = cond (eqb i k.id) (Some k.sizes) (sizes_in ks i)
 
-unfoldable pub sizes_of : ℕ → Sizes
+unfoldable pub sizes_of : ℕ → Option Sizes
 sizes_of i = sizes_in table i
 
 -- whether n bytes are right for these sizes
 unfoldable pub right_for : Sizes → ℕ → Bool
-right_for z n = cond z.longer (leb z.least n) (eqb n z.least)
+right_for (Exactly m) n = eqb n m
+right_for (AtLeast m) n = leb m n
 
 unfoldable pub known : ℕ → Bool
-known i = ltb 0 (sizes_of i).least
+known i = is_some (sizes_of i)
+
+-- of an id without sizes: no message is without its id
+abbrev pub right_in : Option Sizes → ℕ → Bool
+right_in (Some z) n = right_for z n
+right_in None n = eqb n 0
 
 -- whether n bytes are a right size for the id i
 unfoldable pub right : ℕ → ℕ → Bool
-right i n = right_for (sizes_of i) n
+right i n = right_in (sizes_of i) n
+
+-- a number read as an id: the id's own, or one that is not known
+abbrev pub Read : ℕ → Result Id UnknownId → Type 0
+Read n (Ok id) = n ≡ number_of id
+Read n (Err _) = sizes_of n ≡ None
 
 -- ---- the writer
 

@@ -1,7 +1,7 @@
 -- Laws of bytes, of the table of known ids, and of the frame of a message.
 -- Assumes nothing.
-use Rattle.std.specs.Prelude.{◌≡◌, refl, List, [], ◌∷◌, ◌++◌, true, false, ℕ, suc, ◌+◌, length}
-use Rattle.std.proofs.Common.{length-append, lt-ltb, le-ltb, arith}
+use Rattle.std.specs.Prelude.{◌≡◌, refl, List, [], ◌∷◌, ◌++◌, true, false, ℕ, suc, ◌+◌, length, Some, None}
+use Rattle.std.proofs.Common.{length-append, arith}
 use Rattle.octets.specs.Octets.{Octets, be}
 use Rattle.octets.specs.OctetsLaws.{be_octets}
 use Rattle.frames.specs.Frames.{Bytes, sizes_of, right_for, known, right, frame_of}
@@ -32,17 +32,17 @@ bytes_of (b ∷ bs) o = (o.bytes 0 (omega arith), bytes_of bs (record { size = r
 
 -- ---- the table
 
-pub known_no : (i : ℕ) (z : Sizes) → z ≡ sizes_of i → z.least ≡ 0 → known i ≡ false
+pub known_no : (i : ℕ) → None ≡ sizes_of i → known i ≡ false
 unfolding known
-known_no i z e l = rw (← e) (le-ltb 0 z.least (omega arith))
+known_no i e = rw (← e) refl
 
-pub known_yes : (i : ℕ) (z : Sizes) → z ≡ sizes_of i → (z.least ≡ 0 → ⊥) → known i ≡ true
+pub known_yes : (i : ℕ) (z : Sizes) → Some z ≡ sizes_of i → known i ≡ true
 unfolding known
-known_yes i z e l = rw (← e) (lt-ltb 0 z.least (omega arith))
+known_yes i z e = rw (← e) refl
 
-pub right_is : (i n : ℕ) (z : Sizes) → z ≡ sizes_of i → right_for z n ≡ right i n
+pub right_is : (i n : ℕ) (z : Sizes) → Some z ≡ sizes_of i → right_for z n ≡ right i n
 unfolding right
-right_is i n z e = rw (← e)
+right_is i n z e = rw (← e) refl
 
 -- ---- the frame
 

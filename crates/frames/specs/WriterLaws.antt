@@ -1,6 +1,6 @@
 -- Laws of the writer: each number exactly when, what beside it, and the frame that is written.
 -- Assumes nothing.
-use Rattle.std.specs.Prelude.{◌≡◌, refl, List, [], ◌∷◌, ◌↔◌, true, false, ℕ, ◌+◌, ◌≤◌, ◌<◌, take, drop, get_or, ltb}
+use Rattle.std.specs.Prelude.{◌≡◌, refl, List, [], ◌∷◌, ◌↔◌, true, false, ℕ, ◌+◌, ◌≤◌, ◌<◌, take, drop, get_or, ltb, Some, None}
 use Rattle.std.proofs.Common.{ap, sym, ◌∙◌, arith, lt-ltb, le-ltb, eq-eqb, ne_eqb, ltb-true, ltb-false}
 use Rattle.std.proofs.Math.Decide.{ℕ_discrete}
 use Rattle.std.proofs.Math.ListN.{length}
@@ -21,16 +21,15 @@ unfolding sendable
 sendable_none [] e = refl
 sendable_none (i ∷ m) e = let w : ⊥ = omega arith in absurd w
 
-pub sendable_unknown : (m : List ℕ) (i : ℕ) (z : Sizes) → (length m ≡ 0 → ⊥) → i ≡ get_or m 0 0 → z ≡ sizes_of i → z.least ≡ 0 → false ≡ sendable m
+pub sendable_unknown : (m : List ℕ) (i : ℕ) → (length m ≡ 0 → ⊥) → i ≡ get_or m 0 0 → None ≡ sizes_of i → false ≡ sendable m
 unfolding sendable
-sendable_unknown [] i z e f g l = absurd (e refl)
-sendable_unknown (x ∷ m) i z e f g l = rw (known_no x z (g ∙ ap sizes_of f) l)
+sendable_unknown [] i e f g = absurd (e refl)
+sendable_unknown (x ∷ m) i e f g = rw (known_no x (g ∙ ap sizes_of f))
 
-pub sendable_known : (m : List ℕ) (i : ℕ) (z : Sizes) → (length m ≡ 0 → ⊥) → i ≡ get_or m 0 0 → z ≡ sizes_of i → (z.least ≡ 0 → ⊥)
-    → right_for z (length m) ≡ sendable m
+pub sendable_known : (m : List ℕ) (i : ℕ) (z : Sizes) → (length m ≡ 0 → ⊥) → i ≡ get_or m 0 0 → Some z ≡ sizes_of i → right_for z (length m) ≡ sendable m
 unfolding sendable
-sendable_known [] i z e f g l = absurd (e refl)
-sendable_known (x ∷ m) i z e f g l = rw (known_yes x z (g ∙ ap sizes_of f) l) (right_is x (length (x ∷ m)) z (g ∙ ap sizes_of f))
+sendable_known [] i z e f g = absurd (e refl)
+sendable_known (x ∷ m) i z e f g = rw (known_yes x z (g ∙ ap sizes_of f)) (right_is x (length (x ∷ m)) z (g ∙ ap sizes_of f))
 
 pub number_long : (m : List ℕ) (n : ℕ) → longest_frame < length m → frame_number m n ≡ frame_too_long
 unfolding frame_number

@@ -2,118 +2,105 @@
 // Which ids are known, how many bytes their messages have, and the frame of a message written.
 #![tactic(auto)]
 
-ghost use Rattle.std.specs.Prelude.{◌≡◌, true, false, ◌+◌, ◌≤◌, length};
+ghost use Rattle.std.specs.Prelude.{◌≡◌, ◌+◌, ◌≤◌, length, Some};
+ghost use Rattle.numbers.specs.Refusals.{answer_of};
 ghost use Rattle.octets.specs.Octets.{cut, pasted};
 ghost use Rattle.frames.specs.Frames as F;
 
-use numbers::Answer;
+use numbers::{Answer, Refused};
 
-// The known ids.
-pub const CHOKE: usize = 0;
-
-pub const UNCHOKE: usize = 1;
-
-pub const INTERESTED: usize = 2;
-
-pub const NOT_INTERESTED: usize = 3;
-
-pub const HAVE: usize = 4;
-
-pub const BITFIELD: usize = 5;
-
-pub const REQUEST: usize = 6;
-
-pub const PIECE: usize = 7;
-
-pub const CANCEL: usize = 8;
-
-pub const EXTENDED: usize = 20;
-
-pub const HASH_REQUEST: usize = 21;
-
-pub const HASHES: usize = 22;
-
-pub const HASH_REJECT: usize = 23;
-
-// How many bytes the messages of an id have, the id among them: the least, and whether they may have more.
-#[derive(Clone, Copy)]
-pub struct Sizes {
-    pub least: usize,
-    pub longer: bool,
+// The known ids, each with its number on the wire.
+#[derive(Clone, Copy, Debug, PartialEq, Eq)]
+pub enum Id {
+    Choke = 0,
+    Unchoke = 1,
+    Interested = 2,
+    NotInterested = 3,
+    Have = 4,
+    Bitfield = 5,
+    Request = 6,
+    Piece = 7,
+    Cancel = 8,
+    Extended = 20,
+    HashRequest = 21,
+    Hashes = 22,
+    HashReject = 23,
 }
 
-fn exactly(n: usize) -> Sizes
-    ensures { result ≡ F.sized n false }
-{
-    Sizes {
-        least: n,
-        longer: false,
+// A number that is no known id.
+#[derive(Clone, Copy, Debug, PartialEq, Eq)]
+pub struct UnknownId(pub usize);
+
+// How many bytes the messages of an id have, the id among them.
+#[derive(Clone, Copy, Debug, PartialEq, Eq)]
+pub enum Sizes {
+    Exactly(usize),
+    AtLeast(usize),
+}
+
+impl TryFrom<usize> for Id {
+    type Error = UnknownId;
+
+    ghost try_from_gives = { F.Read };
+
+    #[tactic(auto, unfolding(crate::specs::Frames::sizes_of, crate::specs::Frames::sizes_in, crate::specs::Frames::table))]
+    fn try_from(number: usize) -> Result<Id, UnknownId> {
+        match number {
+            0 => Ok(Id::Choke),
+            1 => Ok(Id::Unchoke),
+            2 => Ok(Id::Interested),
+            3 => Ok(Id::NotInterested),
+            4 => Ok(Id::Have),
+            5 => Ok(Id::Bitfield),
+            6 => Ok(Id::Request),
+            7 => Ok(Id::Piece),
+            8 => Ok(Id::Cancel),
+            20 => Ok(Id::Extended),
+            21 => Ok(Id::HashRequest),
+            22 => Ok(Id::Hashes),
+            23 => Ok(Id::HashReject),
+            _ => Err(UnknownId(number)),
+        }
     }
 }
 
-fn at_least(n: usize) -> Sizes
-    ensures { result ≡ F.sized n true }
-{
-    Sizes {
-        least: n,
-        longer: true,
+impl Id {
+    // The sizes of its messages.
+    #[tactic(auto, unfolding(crate::specs::Frames::sizes_of, crate::specs::Frames::sizes_in, crate::specs::Frames::table))]
+    pub fn sizes(self) -> Sizes
+        ensures { F.sizes_of (F.number_of self) ≡ Some result }
+    {
+        match self {
+            Id::Choke | Id::Unchoke | Id::Interested | Id::NotInterested => Sizes::Exactly(1),
+            Id::Have => Sizes::Exactly(5),
+            Id::Request | Id::Cancel => Sizes::Exactly(13),
+            Id::HashRequest | Id::HashReject => Sizes::Exactly(49),
+            Id::Bitfield | Id::Extended => Sizes::AtLeast(2),
+            Id::Piece => Sizes::AtLeast(9),
+            Id::Hashes => Sizes::AtLeast(49),
+        }
     }
 }
 
-// The table of the known ids. An unknown one has no size: its least is 0, and no message is without its id.
-pub fn sizes_of(id: usize) -> Sizes
+// The sizes of the messages of an id, if it is known.
+pub fn sizes_of(id: usize) -> Option<Sizes>
     ensures { result ≡ F.sizes_of id }
 {
-    if id == CHOKE {
-        return exactly(1);
+    match Id::try_from(id) {
+        Ok(known) => Some(known.sizes()),
+        Err(_) => None,
     }
-    if id == UNCHOKE {
-        return exactly(1);
-    }
-    if id == INTERESTED {
-        return exactly(1);
-    }
-    if id == NOT_INTERESTED {
-        return exactly(1);
-    }
-    if id == HAVE {
-        return exactly(5);
-    }
-    if id == BITFIELD {
-        return at_least(2);
-    }
-    if id == REQUEST {
-        return exactly(13);
-    }
-    if id == PIECE {
-        return at_least(9);
-    }
-    if id == CANCEL {
-        return exactly(13);
-    }
-    if id == EXTENDED {
-        return at_least(2);
-    }
-    if id == HASH_REQUEST {
-        return exactly(49);
-    }
-    if id == HASHES {
-        return at_least(49);
-    }
-    if id == HASH_REJECT {
-        return exactly(49);
-    }
-    exactly(0)
 }
 
 // Whether `size` bytes are right for a message of these sizes.
+#[tactic(auto, unfolding(crate::specs::Frames::right_for))]
 pub fn right_for(sizes: Sizes, size: usize) -> bool
     ensures { result ≡ F.right_for sizes size }
 {
-    if sizes.longer {
-        return sizes.least <= size;
+    match sizes {
+        Sizes::Exactly(n) => size == n,
+        Sizes::AtLeast(n) => n <= size,
     }
-    size == sizes.least
 }
 
 // The 32 bytes of `bytes` from i on into room, as many places behind `at`.
@@ -121,7 +108,7 @@ fn put_part(room: &mut [u8], at: usize, bytes: &[u8], i: usize)
     requires { (i + 32 ≤ length bytes.now) × (at + length bytes.now ≤ length room.old) }
     ensures { room.new ≡ pasted room.old (at + i) (cut bytes.now i 32) }
 {
-    let part = octets::hash_at(bytes, i);
+    let part: [u8; 32] = octets::hash_at(bytes, i);
     octets::put_hash(room, at + i, part);
 }
 
@@ -130,10 +117,8 @@ fn put_few(room: &mut [u8], at: usize, bytes: &[u8])
     requires { at + length bytes.now ≤ length room.old }
     ensures { room.new ≡ pasted room.old at bytes.now }
 {
-    let mut i: usize = 0;
-    while i < bytes.len() {
+    for i in 0..bytes.len() {
         room[at + i] = bytes[i];
-        i += 1;
     }
 }
 
@@ -143,17 +128,15 @@ fn put_many(room: &mut [u8], at: usize, bytes: &[u8])
     ensures { room.new ≡ pasted room.old at bytes.now }
 {
     let n = bytes.len();
-    let mut i: usize = 0;
-    while i + 64 <= n {
-        put_part(room, at, bytes, i);
-        put_part(room, at, bytes, i + 32);
-        i += 64;
+    for k in 0..n / 64 {
+        put_part(room, at, bytes, 64 * k);
+        put_part(room, at, bytes, 64 * k + 32);
     }
     put_part(room, at, bytes, n - 64);
     put_part(room, at, bytes, n - 32);
 }
 
-// `bytes` into room from `at` on.
+// `bytes` into room from `at` on. The library's copy_from_slice takes six times as many instructions for a block (docs/BENCHMARKS.md, "Streams").
 pub fn put_bytes(room: &mut [u8], at: usize, bytes: &[u8])
     requires { at + length bytes.now ≤ length room.old }
     ensures { room.new ≡ pasted room.old at bytes.now }
@@ -174,29 +157,35 @@ fn is_sendable(message: &[u8]) -> bool
         return true;
     }
     let id = octets::wide(message[0]);
-    let z = sizes_of(id);
-    if z.least == 0 {
-        return false;
+    match sizes_of(id) {
+        Some(sizes) => right_for(sizes, n),
+        None => false,
     }
-    right_for(z, n)
+}
+
+fn framed(message: &[u8], out: &mut [u8]) -> Result<u64, Refused>
+    ensures answer { answer_of result ≡ F.frame_answer message.now out.old }
+    ensures left { out.new ≡ F.frame_after message.now out.old }
+{
+    let n = message.len();
+    if limits::LONGEST_FRAME < n {
+        return Err(Refused::FrameTooLong);
+    }
+    if !is_sendable(message) {
+        return Err(Refused::NoMessage);
+    }
+    let size = 4 + n;
+    if out.len() < size {
+        return Err(Refused::NoRoom);
+    }
+    octets::put_number(out, 0, 4, n);
+    put_bytes(out, 4, message);
+    Ok(size as u64)
 }
 
 // Writes the frame of a message: 30, 1, 11, or 0 and the frame's size. Bytes behind the frame stay.
 pub fn frame(message: &[u8], out: &mut [u8]) -> Answer
     ensures { (result ≡ F.frame_answer message.now out.old) × (out.new ≡ F.frame_after message.now out.old) }
 {
-    let n = message.len();
-    if limits::LONGEST_FRAME < n {
-        return numbers::refusal(numbers::FRAME_TOO_LONG);
-    }
-    if !is_sendable(message) {
-        return numbers::refusal(numbers::NO_MESSAGE);
-    }
-    let size = 4 + n;
-    if out.len() < size {
-        return numbers::refusal(numbers::NO_ROOM);
-    }
-    octets::put_number(out, 0, 4, n);
-    put_bytes(out, 4, message);
-    numbers::success(size as u64)
+    Answer::from(framed(message, out))
 }

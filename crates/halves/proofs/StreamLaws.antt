@@ -1,12 +1,10 @@
 -- In the bytes that the v1 half hashes, piece i of a file is its bytes and then the zeros of the padding behind it.
 -- Assumes nothing.
-use Rattle.std.specs.Prelude.{◌≡◌, Bool, true, false, ◌||◌, List, ◌∷◌, ◌++◌, take, drop}
+use Rattle.std.specs.Prelude.{◌≡◌, Bool, true, false, ◌||◌, List, ◌∷◌, ◌++◌, take, drop, ℕ, zero, suc, ◌+◌, ◌-◌, ◌*◌, ◌/◌, ◌%◌, ◌≤◌, ◌<◌, min}
 use Rattle.std.proofs.Math.Path.{refl, ap, sym}
-use Rattle.std.proofs.Common.{ap₂, ◌∙◌, append-nil, mod-eq_of_lt, add_assoc, length-drop, take_all, eqb-true}
+use Rattle.std.proofs.Common.{ap₂, ◌∙◌, append-nil, mod-eq_of_lt, add_assoc, length-drop, take_all, eqb-true, arith}
 use Rattle.std.proofs.lemmas.Bool.{false≢true}
 use Rattle.std.proofs.Math.Bool.{and-eq-true_iff}
-use Prim.Native.Nat.{ℕ, zero, suc, ◌+◌, ◌-◌, ◌*◌, ◌/◌, ◌%◌, ◌≤◌, ◌<◌, min}
-use native.Mathlib.Omega.{arith}
 use Rattle.std.proofs.Math.Decide.{dec_le}
 use Rattle.std.proofs.Math.Nat.{mul-add-mod_self_right, div-add-mod', add-mul}
 use Rattle.std.proofs.Math.ListN.{length, replicate, length-append, length-replicate}

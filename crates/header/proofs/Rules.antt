@@ -1,48 +1,16 @@
 -- One law for each way out of the rules' functions.
 -- Assumes nothing.
-use mathlib.Core.Path.{◌≡◌, refl, ap, sym, ◌∙◌}
-use mathlib.Core.Bool.{Bool, true, false, ◌&&◌, and-false}
-use mathlib.Core.List.{List}
-use Prim.Native.Nat.{ℕ, ◌+◌, ◌-◌, ◌*◌, ◌/◌, ◌%◌, ◌^◌, ◌≤◌, ◌<◌}
-use native.Mathlib.Omega.{arith}
-use native.Mathlib.Nat.{mod-eq_of_lt}
-use lib.ListN.{length}
-use lib.Dec.{eqb, leb}
-use lib.Pow.{pow_mono}
-use borrow.Author.Tests.{eq-eqb, ne_eqb, le-leb, lt-leb, leb-true, lt-ltb, le-ltb}
+use Rattle.std.specs.Prelude.{◌≡◌, refl, Bool, true, false, ◌&&◌, ℕ, ◌+◌, ◌-◌, ◌*◌, ◌/◌, ◌%◌, ◌^◌, ◌≤◌, ◌<◌, eqb, leb}
+use Rattle.std.proofs.Common.{ap, sym, ◌∙◌, arith, mod-eq_of_lt, pow_mono, eq-eqb, ne_eqb, le-leb, leb-true, lt-ltb, le-ltb}
+use Rattle.std.proofs.Math.Bool.{and-false}
+use Rattle.std.proofs.lemmas.Bool.{lt-leb}
 use Rattle.tree.specs.Geometry.{height, node_number}
 use Rattle.tree.proofs.GeometryLaws.{height_least, shifted_one}
 use Rattle.header.specs.declared.Header.{Header}
 use Rattle.header.specs.declared.Place.{Place}
 use Rattle.limits.specs.Limits.{longest_run}
-use Rattle.header.specs.Header.{header_size, message_id, request_id, hashes_id, reject_id, is_hashes, is_request, is_reject, length_rule, index_rule, rules_kept, place_of}
+use Rattle.header.specs.Header.{length_rule, index_rule, rules_kept, place_of}
 use Rattle.header.specs.HeaderLaws.{log_some}
-
--- ---- the form
-
-pub hashes_short : (m : List ℕ) → length m < header_size → false ≡ is_hashes m
-unfolding is_hashes
-hashes_short m h = sym (rw (lt-leb header_size (length m) h))
-
-pub hashes_long : (m : List ℕ) → header_size ≤ length m → eqb (message_id m) hashes_id ≡ is_hashes m
-unfolding is_hashes
-hashes_long m h = sym (rw (le-leb header_size (length m) h))
-
-pub request_other : (m : List ℕ) → (length m ≡ header_size → ⊥) → false ≡ is_request m
-unfolding is_request
-request_other m h = sym (rw (ne_eqb (length m) header_size h))
-
-pub request_sized : (m : List ℕ) → length m ≡ header_size → eqb (message_id m) request_id ≡ is_request m
-unfolding is_request
-request_sized m h = sym (rw (eq-eqb (length m) header_size h))
-
-pub reject_other : (m : List ℕ) → (length m ≡ header_size → ⊥) → false ≡ is_reject m
-unfolding is_reject
-reject_other m h = sym (rw (ne_eqb (length m) header_size h))
-
-pub reject_sized : (m : List ℕ) → length m ≡ header_size → eqb (message_id m) reject_id ≡ is_reject m
-unfolding is_reject
-reject_sized m h = sym (rw (eq-eqb (length m) header_size h))
 
 -- ---- the length
 

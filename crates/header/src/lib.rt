@@ -1,10 +1,10 @@
 // The 49 bytes before a message's hashes: read, held to the rules, and turned into a place in the tree.
 #![tactic(auto)]
 
-ghost use Rattle.std.specs.Prelude.{◌≡◌, ◌+◌, ◌≤◌, ◌<◌, length, true};
+ghost use Rattle.std.specs.Prelude.{◌≡◌, eqb, ◌&&◌, ◌+◌, ◌≤◌, ◌<◌, length, true};
 ghost use Rattle.header.specs.Header as Hd;
 
-// The ids of the three messages.
+// The ids of the three messages. They are compared with one byte and written as one: an enum would only be turned into them and back.
 pub const REQUEST: u8 = 21;
 
 pub const HASHES: u8 = 22;
@@ -47,31 +47,32 @@ pub fn header_of(message: &[u8]) -> Header
     }
 }
 
+#[tactic(auto, unfolding(crate::specs::Header::is_hashes))]
 pub fn is_hashes(message: &[u8]) -> bool
     ensures { result ≡ Hd.is_hashes message.now }
 {
-    if message.len() < HEADER_SIZE {
-        return false;
-    }
-    message[0] == HASHES
+    HEADER_SIZE <= message.len() && message[0] == HASHES
 }
 
+// Whether the message is its 49 bytes alone, under that id.
+fn is_header(message: &[u8], id: u8) -> bool
+    ensures { result ≡ (eqb (length message.now) Hd.header_size && eqb (Hd.message_id message.now) id) }
+{
+    message.len() == HEADER_SIZE && message[0] == id
+}
+
+#[tactic(auto, unfolding(crate::specs::Header::is_request))]
 pub fn is_request(message: &[u8]) -> bool
     ensures { result ≡ Hd.is_request message.now }
 {
-    if message.len() != HEADER_SIZE {
-        return false;
-    }
-    message[0] == REQUEST
+    is_header(message, REQUEST)
 }
 
+#[tactic(auto, unfolding(crate::specs::Header::is_reject))]
 pub fn is_reject(message: &[u8]) -> bool
     ensures { result ≡ Hd.is_reject message.now }
 {
-    if message.len() != HEADER_SIZE {
-        return false;
-    }
-    message[0] == REJECT
+    is_header(message, REJECT)
 }
 
 fn length_rule(len: usize) -> bool
@@ -104,12 +105,13 @@ pub fn keeps_rules(header: Header, height: usize) -> bool
     requires { Hd.Small header × (height ≤ 32) }
     ensures { result ≡ Hd.rules_kept header height }
 {
-    let base = header.base;
-    let index = header.index;
-    let len = header.len;
-    let proof = header.proof;
-    let fine = length_rule(len);
-    if !fine {
+    let Header {
+        base,
+        index,
+        len,
+        proof,
+    } = header;
+    if !length_rule(len) {
         return false;
     }
     if index % len != 0 {
@@ -130,15 +132,14 @@ pub fn place_of(header: Header, height: usize) -> Place
     requires { Hd.Small header × (height ≤ 32) × (Hd.rules_kept header height ≡ true) }
     ensures { result ≡ Hd.place_of header height }
 {
-    let base = header.base;
-    let index = header.index;
-    let len = header.len;
-    let proof = header.proof;
+    let Header {
+        base,
+        index,
+        len,
+        proof,
+    } = header;
     let k = tree::geometry::log2(len);
-    let mut u = 0;
-    if k <= proof + 1 {
-        u = proof + 1 - k;
-    }
+    let u = (proof + 1).saturating_sub(k);
     let l = base + k;
     let i = index / len;
     let top = tree::geometry::node_number(height, l, i);

@@ -1,18 +1,8 @@
 -- What the code's turns and returns give, over plain variables: one law for each.
 -- Assumes nothing.
-use mathlib.Core.Path.{◌≡◌, refl, ap, sym, ◌∙◌}
-use mathlib.Core.Bool.{Bool, true}
-use mathlib.Core.List.{List}
-use mathlib.Core.Logic.{inl}
-use Prim.Native.Nat.{ℕ, zero, suc, ◌+◌, ◌-◌, ◌*◌, ◌/◌, ◌%◌, ◌^◌, ◌≤◌, ◌<◌}
-use native.Mathlib.Decide.{ℕ_discrete, dec_lt}
-use native.Mathlib.Nat.{add-mul, one-mul, le-mul_of_pos_right}
-use native.Mathlib.Numerals.{add-one}
-use native.Mathlib.Omega.{arith}
-use lib.ListN.{length}
-use lib.Seq.{take_all}
-use lib.Pow.{pow_mono, pow_pos}
-use borrow.Author.Tests.{ltb-true}
+use Rattle.std.specs.Prelude.{◌≡◌, refl, Bool, true, List, ℕ, zero, suc, ◌+◌, ◌-◌, ◌*◌, ◌/◌, ◌%◌, ◌^◌, ◌≤◌, ◌<◌, length}
+use Rattle.std.proofs.Common.{ap, sym, ◌∙◌, inl, add-mul, one-mul, le-mul_of_pos_right, add-one, arith, take_all, pow_mono, pow_pos, ltb-true}
+use Rattle.std.proofs.Math.Decide.{ℕ_discrete, dec_lt}
 use Rattle.octets.specs.Octets.{cut, pasted, same}
 use Rattle.octets.specs.OctetsLaws.{cut_pasted_same, cut_pasted_other}
 use Rattle.sha256.specs.Sha256.{pair_hash}

@@ -1,10 +1,8 @@
 -- The hashes of a worked-out heap are the nodes of the tree over its leaves.
 -- Nothing here looks into `pair_hash`. Assumes nothing.
-use Rattle.std.specs.Prelude.{◌≡◌, List, length, take, drop}
+use Rattle.std.specs.Prelude.{◌≡◌, List, length, take, drop, ℕ, zero, suc, ◌+◌, ◌-◌, ◌*◌, ◌/◌, ◌^◌, ◌≤◌, ◌<◌}
 use Rattle.std.proofs.Math.Path.{refl, ap₂}
-use Rattle.std.proofs.Common.{ap, sym, ◌∙◌, add-mul, one-mul, mul_assoc, mul-le-mul_right, le-mul_of_pos_right, pow-add, pow_pos, length-take-le, lt-ltb, le-ltb}
-use Prim.Native.Nat.{ℕ, zero, suc, ◌+◌, ◌-◌, ◌*◌, ◌/◌, ◌^◌, ◌≤◌, ◌<◌}
-use native.Mathlib.Omega.{arith}
+use Rattle.std.proofs.Common.{ap, sym, ◌∙◌, add-mul, one-mul, mul_assoc, mul-le-mul_right, le-mul_of_pos_right, pow-add, pow_pos, length-take-le, lt-ltb, le-ltb, arith}
 use Rattle.octets.specs.Octets.{cut}
 use Rattle.sha256.specs.Sha256.{pair_hash}
 use Rattle.lanes.specs.Hashes.{parent_of}

@@ -29,11 +29,9 @@ fn load(heap: &mut [u8], run: &[u8], pad: [u8; 32], leaves: usize, from: usize)
     requires { (length heap.old ≡ 64 * leaves) × (from + leaves < 2 ^ 64) }
     ensures { (length heap.new ≡ 64 * leaves) × ((leaf : ℕ → List ℕ) → Over run.now pad leaf → (y : ℕ) → y < leaves → cut heap.new (32 * (leaves + y)) 32 ≡ leaf (from + y)) }
 {
-    let mut y: usize = 0;
-    while y < leaves {
+    for y in 0..leaves {
         let h = leaf_in(run, pad, from + y);
         put_hash(heap, 32 * (leaves + y), h);
-        y += 1;
     }
 }
 
@@ -61,11 +59,9 @@ fn raise(v: [u8; 32], k: usize) -> [u8; 32]
     ensures { result ≡ raised v k }
 {
     let mut h = v;
-    let mut i: usize = 0;
-    while i < k {
+    for i in 0..k {
         let above = pair(h, h);
         h = above;
-        i += 1;
     }
     h
 }

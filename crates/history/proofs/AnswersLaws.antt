@@ -1,6 +1,6 @@
 -- The answers case by case, as code and theorems meet them.
 -- Assumes nothing.
-use Rattle.std.specs.Prelude.{◌≡◌, Bool, true, false, ◌&&◌, [], ℕ, ◌-◌, ◌*◌, ◌%◌, length, replicate, eqb, leb}
+use Rattle.std.specs.Prelude.{◌≡◌, Bool, true, false, ◌&&◌, [], ℕ, ◌*◌, ◌%◌, replicate, eqb, leb}
 use Rattle.std.proofs.Math.Bool.{and-eq-true_iff}
 use Rattle.std.proofs.Common.{eq-eqb, le-leb, leb-true, eqb-true}
 use Rattle.numbers.specs.Numbers.{facts_out_of_range}

@@ -1,11 +1,10 @@
 -- 02, request 1, of histories too: bytes of the block's tail behind its length never matter. Two states that differ in them alone get the same
 -- numbers, leave the same layer and end alike; and after a burst they differ in such bytes alone again.
 -- Assumes nothing.
-use Rattle.std.specs.Prelude.{◌≡◌, Bool, ℕ, length, eqb}
+use Rattle.std.specs.Prelude.{◌≡◌, Bool, ℕ, length, eqb, List, [], ◌∷◌}
 use Rattle.std.proofs.Math.Path.{refl, ap, ap₂}
 use Rattle.std.proofs.Common.{◌∙◌}
 use Rattle.std.proofs.Math.Bool.{true, false, cond}
-use mathlib.Core.List.{List, [], ◌∷◌}
 use Rattle.octets.specs.Octets.{zero_hash}
 use Rattle.running.specs.Bursts.{absorbed, hash_of}
 use Rattle.running.specs.BurstsLaws.{same_said}

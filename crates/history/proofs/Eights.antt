@@ -1,19 +1,12 @@
 -- Eight whole blocks, as the code takes them: the leaf of each is the hash of its bytes, since no block is under way.
 -- Assumes nothing.
-use mathlib.Core.Path.{◌≡◌, refl, ap, ap₂, sym, ◌∙◌}
-use mathlib.Core.List.{List, []}
-use mathlib.Core.Bool.{true, false}
-use Prim.Native.Nat.{ℕ, min, ◌+◌, ◌-◌, ◌*◌, ◌/◌, ◌%◌, ◌≤◌, ◌<◌}
-use native.Mathlib.Decide.{ℕ_discrete}
-use native.Mathlib.Omega.{arith}
-use lib.ListN.{length, get_or, take, drop, drop_of_length-le}
-use lib.Seq.{ext_get_or}
+use Rattle.std.specs.Prelude.{◌≡◌, refl, List, [], true, false, ℕ, min, ◌+◌, ◌-◌, ◌*◌, ◌/◌, ◌%◌, ◌≤◌, ◌<◌, length, take, drop}
+use Rattle.std.proofs.Common.{ap, ap₂, sym, ◌∙◌, arith, drop_of_length-le}
 use Rattle.octets.specs.Octets.{cut}
 use Rattle.sha256.specs.Sha256.{sha256}
 use Rattle.lanes.specs.Hashes.{eighth_hash}
-use Rattle.running.specs.Bursts.{state_of, said_by, saying, to_words, absorbed, hash_of}
+use Rattle.running.specs.Bursts.{state_of, said_by, absorbed, hash_of}
 use Rattle.running.specs.BurstsLaws.{absorbed_more, hash_of_state, state_total, state_tail, same_said}
-use Rattle.running.specs.declared.Hashing.{Hashing}
 use Rattle.tree.specs.Geometry.{block_length, is_piece_length}
 use Rattle.history.specs.Growing.{node_count, finishing, grown_by, noted, noted_by}
 use Rattle.history.proofs.DecidingLaws.{part_length, fits}
@@ -21,10 +14,6 @@ use Rattle.history.specs.Parts.{NoneBegun, Part, PartSize, Due, Grows, with_leaf
 use Rattle.history.specs.Answers.{no_room_for, Possible}
 use Rattle.history.specs.declared.History.{History}
 use Rattle.history.proofs.Steps.{grow_whole, grown_turn, noted_turn, note_law, grown_none, noted_end}
-
--- words that are the same, one by one
-words_same : (a b : List ℕ) → length a ≡ 8 → length b ≡ 8 → ((i : ℕ) → i < 8 → get_or a i 0 ≡ get_or b i 0) → a ≡ b
-words_same a b la lb f = ext_get_or 0 a b (la ∙ sym lb) (λ i h. f i (omega arith))
 
 -- a running hash without bytes says what the first one does
 begun_says : (s : History) → NoneBegun s → said_by s.block ≡ said_by (state_of [])
@@ -120,24 +109,6 @@ eights_due s t part layer₀ layer x p b l d = (
       let q = d.places t.length (omega (arith, p.length_then)) (omega (arith, p.length_then, l, b)) n (rw p.kept at e) in
       rw (p.kept, p.room) q,
 )
-
-first_words : length (state_of []).words ≡ 8
-unfolding state_of saying to_words
-first_words = refl
-
-pub words_first : (words first : List ℕ) (begun : Hashing) (i : ℕ) → length words ≡ 8 → begun ≡ state_of [] → first ≡ begun.words → 8 ≤ i
-    → ((j : ℕ) → j < i → get_or words j 0 ≡ get_or first j 0) → words ≡ (state_of []).words
-words_first words first begun i l e f h g =
-    let q : first ≡ (state_of []).words = f ∙ ap (λ (s : Hashing). s.words) e in
-    words_same words (state_of []).words l first_words (λ j b. g j (omega arith) ∙ ap (λ (w : List ℕ). get_or w j 0) q)
-
-pub words_more : (words first : List ℕ) (i : ℕ) → ((j : ℕ) → j < i → get_or words j 0 ≡ get_or first j 0) → get_or words i 0 ≡ get_or first i 0
-    → (j : ℕ) → j < i + 1 → get_or words j 0 ≡ get_or first j 0
-words_more words first i f e j h = by_place (ℕ_discrete j i)
-  where
-    by_place : Dec (j ≡ i) → get_or words j 0 ≡ get_or first j 0
-    by_place (yes d) = rw d e
-    by_place (no d) = f j (omega arith)
 
 -- ---- a part of a burst
 

@@ -1,16 +1,13 @@
 -- One burst and the end, from the state of the bytes x: what the theorems about histories are made of.
 -- Assumes nothing.
-use Rattle.std.specs.Prelude.{◌≡◌, refl, Bool, true, false, ℕ, zero, suc, ◌+◌, ◌-◌, ◌*◌, ◌/◌, ◌%◌, ◌^◌, ◌≤◌, ◌<◌, drop, ltb}
+use Rattle.std.specs.Prelude.{◌≡◌, refl, Bool, true, false, ℕ, zero, suc, ◌+◌, ◌-◌, ◌*◌, ◌/◌, ◌%◌, ◌^◌, ◌≤◌, ◌<◌, drop, ltb, List, [], ◌++◌}
 use Rattle.std.proofs.Math.Path.{ap, ap₂, sym}
-use Rattle.std.proofs.Common.{subst, ◌∙◌, mul_assoc, mul_comm, add-mul, one-mul, le-div_iff_mul-le, length-append, length-drop, take_at}
+use Rattle.std.proofs.Common.{subst, ◌∙◌, mul_assoc, mul_comm, add-mul, one-mul, le-div_iff_mul-le, length-append, length-drop, take_at, append_assoc, arith, eq-eqb, ne_eqb, ltb-true, lt-ltb, le-ltb}
 use Rattle.std.proofs.Math.Bool.{and-false}
 use Rattle.std.proofs.lemmas.Bool.{false≢true}
-use mathlib.Core.List.{List, [], ◌++◌, append_assoc}
 use Rattle.std.proofs.Math.Nat.{zero-mul}
-use native.Mathlib.Omega.{arith}
 use Rattle.std.proofs.Math.Decide.{dec_le, dec_lt}
 use Rattle.std.proofs.Math.ListN.{length, take}
-use borrow.Author.Tests.{eq-eqb, ne_eqb, ltb-true, lt-ltb, le-ltb}
 use Rattle.octets.specs.Octets.{pasted, zero_hash}
 use Rattle.limits.specs.Limits.{longest_file}
 use Rattle.running.specs.BurstsLaws.{state_total, state_tail}

@@ -1,15 +1,13 @@
 -- What a burst writes to the lent layer: the hashes of the pieces that the history runs past, and nothing else.
 -- Assumes nothing.
-use Rattle.std.specs.Prelude.{◌≡◌, refl, ◌&&◌, ℕ, zero, suc, ◌+◌, ◌-◌, ◌*◌, ◌/◌, ◌%◌, ◌^◌, ◌≤◌, ◌<◌, take, drop, ltb}
+use Rattle.std.specs.Prelude.{◌≡◌, refl, ◌&&◌, ℕ, zero, suc, ◌+◌, ◌-◌, ◌*◌, ◌/◌, ◌%◌, ◌^◌, ◌≤◌, ◌<◌, take, drop, ltb, List, [], ◌∷◌, ◌++◌}
 use Rattle.std.proofs.Math.Path.{ap}
-use Rattle.std.proofs.Common.{sym, ◌∙◌, add-mul, one-mul, zero-mul, div-lt_iff_lt-mul, div-add-mod', mod-lt, add-zero, arith, length-append, take-append-drop, pow_pos}
+use Rattle.std.proofs.Common.{sym, ◌∙◌, add-mul, one-mul, zero-mul, div-lt_iff_lt-mul, div-add-mod', mod-lt, add-zero, arith, length-append, take-append-drop, pow_pos, append_assoc, append-nil, eq-eqb, ne_eqb, lt-ltb, le-ltb}
 use Rattle.std.proofs.Math.Bool.{true, and-false, and-eq-true_iff}
-use mathlib.Core.List.{List, [], ◌∷◌, ◌++◌, append_assoc, append-nil}
 use Rattle.std.proofs.Math.Nat.{div-div-eq-div-mul, one-le-mul}
 use Rattle.std.proofs.Math.Decide.{ℕ_discrete}
 use Rattle.std.proofs.Math.ListN.{length}
 use Rattle.std.proofs.Math.Dec.{eqb}
-use borrow.Author.Tests.{eq-eqb, ne_eqb, lt-ltb, le-ltb}
 use Rattle.octets.specs.Octets.{pasted}
 use Rattle.octets.specs.OctetsLaws.{pasted_append, pasted_length}
 use Rattle.tree.specs.Geometry.{block_length, ceil_div, piece_layer, is_piece_length, piece_count}

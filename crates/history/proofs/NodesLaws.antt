@@ -1,12 +1,10 @@
 -- Laws of the finished nodes: one more leaf makes them those of one more block.
 -- Assumes nothing.
-use Rattle.std.specs.Prelude.{◌≡◌, cond, List, ◌++◌, ◌⊎◌, get_or, eqb}
+use Rattle.std.specs.Prelude.{◌≡◌, cond, List, ◌++◌, ◌⊎◌, get_or, eqb, ℕ, zero, suc, ◌+◌, ◌-◌, ◌*◌, ◌/◌, ◌%◌, ◌^◌, ◌≤◌, ◌<◌}
 use Rattle.std.proofs.Math.Path.{refl, ap, ap₂}
-use Rattle.std.proofs.Common.{sym, subst, ◌∙◌, inl, inr, add-mul, one-mul, mul_assoc, mul_comm, div-lt_iff_lt-mul, le-div_iff_mul-le, ext_get_or, pow_pos, pow-add, eq-eqb, ne_eqb}
-use Prim.Native.Nat.{ℕ, zero, suc, ◌+◌, ◌-◌, ◌*◌, ◌/◌, ◌%◌, ◌^◌, ◌≤◌, ◌<◌}
+use Rattle.std.proofs.Common.{sym, subst, ◌∙◌, inl, inr, add-mul, one-mul, mul_assoc, mul_comm, div-lt_iff_lt-mul, le-div_iff_mul-le, ext_get_or, pow_pos, pow-add, eq-eqb, ne_eqb, arith}
 use Rattle.std.proofs.Math.Nat.{pow-succ', div-div-eq-div-mul, mul-div_cancel_left}
 use Rattle.std.proofs.Math.Decide.{dec_lt, ℕ_discrete}
-use native.Mathlib.Omega.{arith}
 use Rattle.std.proofs.Math.ListN.{length, length-append}
 use Rattle.octets.specs.Octets.{Octets, cut, pasted, zero_hash}
 use Rattle.octets.specs.OctetsLaws.{get_or_cut, pasted_length, cut_pasted_other, cut_pasted_same, cut_append_left, cut_append_right, zero_octets}

@@ -1,16 +1,9 @@
 -- One turn of each loop, and what a part of a burst leads to, as the code takes it.
 -- Assumes nothing.
-use mathlib.Core.Path.{◌≡◌, refl, ap, ap₂, sym, ◌∙◌}
-use mathlib.Core.Bool.{true, cond, and-false}
-use mathlib.Core.List.{List, [], ◌∷◌, ◌++◌}
-use Prim.Native.Nat.{ℕ, zero, suc, ◌+◌, ◌-◌, ◌*◌, ◌/◌, ◌%◌, ◌^◌, ◌≤◌, ◌<◌}
-use native.Mathlib.Nat.{mul_assoc, mul_comm, zero-mul, div-add-mod', pow-succ', pow-suc, div-div-eq-div-mul, mod-eq_of_lt}
-use native.Mathlib.Omega.{arith}
-use lib.ListN.{length, take, drop, take-append-drop}
-use lib.Seq.{drop-drop}
-use lib.Pow.{pow_pos, pow_mono}
-use lib.Dec.{eqb, ltb}
-use borrow.Author.Tests.{eq-eqb, ne_eqb, lt-ltb, le-ltb}
+use Rattle.std.specs.Prelude.{◌≡◌, refl, true, cond, List, [], ◌∷◌, ◌++◌, ℕ, zero, suc, ◌+◌, ◌-◌, ◌*◌, ◌/◌, ◌%◌, ◌^◌, ◌≤◌, ◌<◌, length, take, drop, eqb, ltb}
+use Rattle.std.proofs.Common.{ap, ap₂, sym, ◌∙◌, mul_assoc, mul_comm, zero-mul, div-add-mod', pow-suc, mod-eq_of_lt, arith, take-append-drop, drop-drop, pow_pos, pow_mono, eq-eqb, ne_eqb, lt-ltb, le-ltb}
+use Rattle.std.proofs.Math.Bool.{and-false}
+use Rattle.std.proofs.Math.Nat.{pow-succ', div-div-eq-div-mul}
 use Rattle.octets.specs.Octets.{pasted}
 use Rattle.limits.specs.Limits.{tallest_tree}
 use Rattle.sha256.specs.Sha256.{pair_hash}

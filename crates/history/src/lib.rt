@@ -11,8 +11,10 @@ ghost use Rattle.history.specs.Growing as G;
 ghost use Rattle.history.specs.Parts as P;
 ghost use Rattle.history.specs.Answers as W;
 ghost use Rattle.history.specs.Answers.{Possible};
+ghost use Rattle.numbers.specs.Refusals.{code_of};
 
 use lanes::hashes::hash8;
+use numbers::Refused;
 use octets::{hash_at, put_hash};
 use running::Hashing;
 use sha256::pair;
@@ -34,7 +36,7 @@ pub struct History {
     pub nodes: [u8; NODES_SIZE],
 }
 
-// kd_history_answer: a number, and the state after the burst; beside a refusal the state as it was given.
+// kd_history_answer, as C has it: a number, and the state after the burst; beside a refusal the state as it was given.
 #[repr(C)]
 #[derive(Clone, Copy)]
 pub struct HistoryAnswer {
@@ -42,7 +44,7 @@ pub struct HistoryAnswer {
     pub history: History,
 }
 
-// kd_history_end_answer
+// kd_history_end_answer, as C has it: beside a refusal all is zero.
 #[repr(C)]
 #[derive(Clone, Copy)]
 pub struct HistoryEnd {
@@ -58,31 +60,29 @@ pub fn begin(plen: usize) -> HistoryAnswer
 {
     let nodes = [0u8; NODES_SIZE];
     if is_piece_length(plen) {
-        let history = History {
-            piece_length: plen as u64,
-            length: 0,
-            block: running::begin(),
-            nodes,
+        return HistoryAnswer {
+            number: numbers::DONE,
+            history: History {
+                piece_length: plen as u64,
+                length: 0,
+                block: running::begin(),
+                nodes,
+            },
         };
-        return HistoryAnswer { number: 0, history };
     }
-    let words = [0u32; 8];
-    let tail = [0u8; 64];
-    let block = Hashing {
-        words,
-        tail,
-        tail_size: 0,
-        total: 0,
-    };
-    let history = History {
-        piece_length: 0,
-        length: 0,
-        block,
-        nodes,
-    };
     HistoryAnswer {
-        number: numbers::FACTS_OUT_OF_RANGE,
-        history,
+        number: u32::from(Refused::FactsOutOfRange),
+        history: History {
+            piece_length: 0,
+            length: 0,
+            block: Hashing {
+                words: [0u32; 8],
+                tail: [0u8; 64],
+                tail_size: 0,
+                total: 0,
+            },
+            nodes,
+        },
     }
 }
 
@@ -96,6 +96,7 @@ fn finish(nodes: &mut [u8], i: usize, leaf: [u8; 32])
     let mut hash = leaf;
     let mut k = 0;
     let mut j = i;
+    // No range: it stops at the first left child.
     while j % 2 == 1 {
         let at = 32 * k;
         let left = hash_at(nodes, at);
@@ -153,7 +154,7 @@ fn note(history: History, layer: &mut [u8])
     }
     let nodes = history.nodes;
     let p = piece_layer(plen);
-    let hash = hash_at(&nodes, 32 * p);
+    let hash: [u8; 32] = hash_at(&nodes, 32 * p);
     let i = n / plen - 1;
     put_hash(layer, 32 * i, hash);
 }
@@ -182,11 +183,7 @@ fn is_possible(history: History) -> bool
 fn passed(n: usize, plen: usize) -> usize
     ensures { result ≡ W.passed n plen }
 {
-    let c = piece_count(n, plen);
-    if c == 0 {
-        return 0;
-    }
-    c - 1
+    piece_count(n, plen).saturating_sub(1)
 }
 
 // Whether a hash that a burst of k bytes makes due doesn't fit a layer of m.
@@ -204,21 +201,21 @@ fn no_room(history: History, k: usize, m: usize) -> bool
     false
 }
 
-// The number for a burst of k bytes and a layer of m.
-fn more_number(history: History, k: usize, m: usize) -> u32
-    ensures { result ≡ W.more_number history k m }
+// Whether a burst of k bytes may come, with a layer of m: else 9, 10 or 11.
+fn check_burst(history: History, k: usize, m: usize) -> Result<(), Refused>
+    ensures { code_of result ≡ W.more_number history k m }
 {
-    if is_possible(history) {
-        let left = limits::LONGEST_FILE - history.length as usize;
-        if k > left {
-            return numbers::FACTS_OUT_OF_RANGE;
-        }
-        if no_room(history, k, m) {
-            return numbers::NO_ROOM;
-        }
-        return 0;
+    if !is_possible(history) {
+        return Err(Refused::Unusable);
     }
-    numbers::UNUSABLE
+    let left = limits::LONGEST_FILE - history.length as usize;
+    if k > left {
+        return Err(Refused::FactsOutOfRange);
+    }
+    if no_room(history, k, m) {
+        return Err(Refused::NoRoom);
+    }
+    Ok(())
 }
 
 // Whether a block's running hash has taken no bytes, by its words.
@@ -226,24 +223,14 @@ fn is_begun(block: Hashing) -> bool
     ensures { result ≡ true → block.words ≡ (state_of []).words }
 {
     let begun = running::begin();
-    let first = begun.words;
-    let words = block.words;
-    let mut i: usize = 0;
-    while i < 8 {
-        if words[i] != first[i] {
-            return false;
-        }
-        i += 1;
-    }
-    true
+    block.words == begun.words
 }
 
 // How many of the bytes that are left go into the block under way.
 fn within_block(n: usize, left: usize) -> usize
     ensures { result ≡ min (block_length - n % block_length) left }
 {
-    let room = 16384 - n % 16384;
-    if left < room { left } else { room }
+    (16384 - n % 16384).min(left)
 }
 
 // How many of the bytes that are left are taken at once: those of the block under way, or eight whole blocks where none is begun.
@@ -287,13 +274,11 @@ fn grow8(history: History, part: &[u8], layer: &mut [u8]) -> History
 {
     let leaves = hash8(part);
     let mut t = history;
-    let mut x: usize = 0;
-    while x < 8 {
+    for x in 0..8 {
         note(t, layer);
         let leaf = hash_at(&leaves, 32 * x);
         let later = grow_block(t, leaf);
         t = later;
-        x += 1;
     }
     t
 }
@@ -318,6 +303,7 @@ fn run(history: History, burst: &[u8], layer: &mut [u8]) -> History
 {
     let mut t = history;
     let mut at = 0;
+    // No range: a part's size comes from the state.
     while at < burst.len() {
         let n = part_size(t, burst.len() - at);
         let end = at + n;
@@ -333,14 +319,15 @@ fn run(history: History, burst: &[u8], layer: &mut [u8]) -> History
 pub fn more(before: History, burst: &[u8], layer: &mut [u8]) -> HistoryAnswer
     ensures { (result ≡ W.more_answer before burst.now layer.old) × (layer.new ≡ W.more_layer before burst.now layer.old) }
 {
-    let number = more_number(before, burst.len(), layer.len());
-    if number == 0 {
-        let history = run(before, burst, layer);
-        return HistoryAnswer { number: 0, history };
-    }
-    HistoryAnswer {
-        number,
-        history: before,
+    match check_burst(before, burst.len(), layer.len()) {
+        Ok(()) => HistoryAnswer {
+            number: numbers::DONE,
+            history: run(before, burst, layer),
+        },
+        Err(why) => HistoryAnswer {
+            number: u32::from(why),
+            history: before,
+        },
     }
 }
 
@@ -376,15 +363,13 @@ fn open_above(nodes: &[u8], leaf: [u8; 32], i: usize, k: usize) -> [u8; 32]
     let mut child = leaf;
     let mut pad = [0u8; 32];
     let mut j = i;
-    let mut l = 0;
-    while l < k {
+    for l in 0..k {
         let left = hash_at(nodes, 32 * l);
         let up = parent(j, left, child, pad);
         child = up;
         let wider = pair(pad, pad);
         pad = wider;
         j = j / 2;
-        l += 1;
     }
     child
 }
@@ -427,17 +412,17 @@ fn layer_size(n: usize, plen: usize) -> usize
     0
 }
 
-// The number at the end, for a layer of m bytes.
-fn end_number(history: History, m: usize) -> u32
-    ensures { result ≡ W.end_number history m }
+// Whether the history may end, with a layer of m bytes: else 9 or 11.
+fn check_end(history: History, m: usize) -> Result<(), Refused>
+    ensures { code_of result ≡ W.end_number history m }
 {
-    if is_possible(history) {
-        if m < layer_size(history.length as usize, history.piece_length as usize) {
-            return numbers::NO_ROOM;
-        }
-        return 0;
+    if !is_possible(history) {
+        return Err(Refused::Unusable);
     }
-    numbers::UNUSABLE
+    if m < layer_size(history.length as usize, history.piece_length as usize) {
+        return Err(Refused::NoRoom);
+    }
+    Ok(())
 }
 
 // Writes the last piece's hash, if there is a layer.
@@ -460,22 +445,22 @@ fn put_last(history: History, layer: &mut [u8])
 pub fn end(history: History, layer: &mut [u8]) -> HistoryEnd
     ensures { (result ≡ W.end_answer history layer.old) × (layer.new ≡ W.end_layer history layer.old) }
 {
-    let number = end_number(history, layer.len());
-    let n = history.length as usize;
-    if number == 0 {
-        put_last(history, layer);
-        return HistoryEnd {
-            number: 0,
-            length: history.length,
-            root: root_of(history),
-            layer_size: layer_size(n, history.piece_length as usize) as u64,
-        };
-    }
-    let none = [0u8; 32];
-    HistoryEnd {
-        number,
-        length: 0,
-        root: none,
-        layer_size: 0,
+    match check_end(history, layer.len()) {
+        Ok(()) => {
+            put_last(history, layer);
+            let size = layer_size(history.length as usize, history.piece_length as usize);
+            HistoryEnd {
+                number: numbers::DONE,
+                length: history.length,
+                root: root_of(history),
+                layer_size: size as u64,
+            }
+        }
+        Err(why) => HistoryEnd {
+            number: u32::from(why),
+            length: 0,
+            root: [0u8; 32],
+            layer_size: 0,
+        },
     }
 }

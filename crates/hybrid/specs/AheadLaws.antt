@@ -1,6 +1,6 @@
 -- How a walk over the entries goes on, and how a path is compared element by element.
 -- Assumes nothing.
-use Rattle.std.specs.Prelude.{◌≡◌, Bool, true, false, List, [], ◌++◌, ℕ, ◌+◌, ◌-◌, ◌≤◌, length, drop}
+use Rattle.std.specs.Prelude.{◌≡◌, Bool, true, false, List, [], ◌++◌, ℕ, ◌+◌, ◌-◌, ◌≤◌, length, drop, Option, Result}
 use Rattle.std.proofs.Math.Path.{refl, ap}
 use Rattle.std.proofs.Common.{sym, ◌∙◌, arith}
 use Rattle.std.proofs.Math.Bool.{and-eq-true_iff}
@@ -10,12 +10,12 @@ use Rattle.bencode.specs.DepthLaws.{more_levels}
 use Rattle.bencode.specs.PartsLaws.{after_part}
 use Rattle.filetree.specs.Token.{ends_here}
 use Rattle.halves.specs.V1Half.{V1Entry, entry_fits, entry_of, items_fit}
-use Rattle.hybrid.specs.Entry.{StandsAt, PathStands, Reads}
-use Rattle.hybrid.specs.EntryLaws.{ItemsAt, item_front, items_inside}
+use Rattle.hybrid.specs.declared.EntryRead.{EntryRead}
+use Rattle.hybrid.specs.declared.Malformed.{Malformed}
+use Rattle.hybrid.specs.Entry.{StandsAt, PathStands, Reads, malformed, ended, entry_read}
+use Rattle.hybrid.specs.EntryLaws.{ItemsAt, item_front, items_inside, same_entry}
 use Rattle.hybrid.specs.Meet.{Next, no_file, file, next_file}
 use Rattle.hybrid.specs.Ahead.{Ahead, NextIs, NextReads}
-use Rattle.hybrid.specs.declared.V1Token.{V1Token}
-use Rattle.hybrid.specs.declared.V1Token.TheVariants.{Entry, Ended, BadEntry}
 
 -- ---- the entry that stands next
 
@@ -31,16 +31,16 @@ next_one : (x : Value) (ws : Items) → (entry_of x).padding ≡ false → next_
 unfolding next_file
 next_one x ws e = rw e refl
 
-entry_same : (t u : Bool) (n m p k : ℕ) → t ≡ u → n ≡ m → Entry t n p k ≡ Entry u m p k
+entry_same : (t u : Bool) (n m p k : ℕ) → t ≡ u → n ≡ m → entry_read t n p k ≡ entry_read u m p k
 entry_same t u n m p k et en = rw (et, en) refl
 
-next_file_is : (v : List ℕ) (us : Items) (e : V1Entry) (ws : Items) (r : V1Token) → next_file us ≡ file e ws → NextIs v (file e ws) r → NextIs v (next_file us) r
+next_file_is : (v : List ℕ) (us : Items) (e : V1Entry) (ws : Items) (r : Result (Option EntryRead) Malformed) → next_file us ≡ file e ws → NextIs v (file e ws) r → NextIs v (next_file us) r
 next_file_is v us e ws r q h = rw q h
 
 module _ (v : List ℕ) (i : ℕ) where
   -- what is read of an entry that lies ahead
-  ahead_item : (x : Value) (ws : Items) → Ahead v i (item x ws) → (r : V1Token) → Reads v i r
-      → (p : ℕ) × (r ≡ Entry (entry_of x).padding (entry_of x).size p (i + length (encode x))) × PathStands v p (entry_of x) × Ahead v (i + length (encode x)) ws
+  ahead_item : (x : Value) (ws : Items) → Ahead v i (item x ws) → (r : Result (Option EntryRead) Malformed) → Reads v i r
+      → (p : ℕ) × (r ≡ entry_read (entry_of x).padding (entry_of x).size p (i + length (encode x))) × PathStands v p (entry_of x) × Ahead v (i + length (encode x)) ws
   ahead_item x ws a r s =
       let d : drop i v ≡ encode x ++ (encode_items ws ++ []) = a.items ∙ item_front x ws [] in
       let valid : Valid x (max_levels - 1) × ItemsValid ws (max_levels - 1) = unfold Valid in a.valid in
@@ -49,40 +49,36 @@ module _ (v : List ℕ) (i : ℕ) where
       let q = (s.item x here).fits fit.0 in
       (q.0, q.1, q.2, record { items = after_part v i (encode x) (encode_items ws ++ []) d; valid = valid.1; fit = fit.1 })
 
-  pub ahead_ended : (us : Items) → Ahead v i us → Reads v i Ended → us ≡ no_items
+  pub ahead_ended : (us : Items) → Ahead v i us → Reads v i ended → us ≡ no_items
   ahead_ended no_items a s = refl
-  ahead_ended (item x ws) a s = let q = (ahead_item x ws a Ended s).1 in let z : ◌≡◌ {A = ℕ} 0 1 = cc in absurd (omega arith)
+  ahead_ended (item x ws) a s = let q = (ahead_item x ws a ended s).1 in let z : ◌≡◌ {A = ℕ} 0 1 = cc in absurd (omega arith)
 
   -- nothing malformed
-  pub ahead_bad : (us : Items) → Ahead v i us → Reads v i BadEntry → ⊥
+  pub ahead_bad : (us : Items) → Ahead v i us → Reads v i malformed → ⊥
   ahead_bad no_items a s = let q = s.closed (ends_at v i a.items) in let z : ◌≡◌ {A = ℕ} 0 1 = cc in omega arith
-  ahead_bad (item x ws) a s = let q = (ahead_item x ws a BadEntry s).1 in let z : ◌≡◌ {A = ℕ} 0 1 = cc in omega arith
+  ahead_bad (item x ws) a s = let q = (ahead_item x ws a malformed s).1 in let z : ◌≡◌ {A = ℕ} 0 1 = cc in omega arith
 
   pub ahead_inside : (us : Items) → Ahead v i us → length v ≤ i → ⊥
   ahead_inside us a h = items_inside v i us [] a.items h
 
-  module _ (t : Bool) (n p k : ℕ) (s : Reads v i (Entry t n p k)) where
+  module _ (t : Bool) (n p k : ℕ) (s : Reads v i (entry_read t n p k)) where
     -- an entry: the next file, if it is none of padding
     pub ahead_entry : (us : Items) → Ahead v i us → (x : Value) × (ws : Items) × (us ≡ item x ws) × (t ≡ (entry_of x).padding) × (n ≡ (entry_of x).size) × PathStands v p (entry_of x) × Ahead v k ws
     ahead_entry no_items a = let q = s.closed (ends_at v i a.items) in let z : ◌≡◌ {A = ℕ} 0 1 = cc in absurd (omega arith)
     ahead_entry (item x ws) a =
-        let m = ahead_item x ws a (Entry t n p k) s in
-        let q = m.1 in
-        let et : t ≡ (entry_of x).padding = cc in
-        let en : n ≡ (entry_of x).size = cc in
-        let ep : p ≡ m.0 = cc in
-        let ek : k ≡ i + length (encode x) = cc in
-        (x, ws, refl, et, en, rw ep m.2, rw ek m.3)
+        let m = ahead_item x ws a (entry_read t n p k) s in
+        let o = same_entry t (entry_of x).padding n (entry_of x).size p m.0 k (i + length (encode x)) m.1 in
+        (x, ws, refl, o.0, o.1, rw o.2 m.2, rw o.3 m.3)
 
     -- padding is passed over
     pub ahead_padding : (us : Items) → Ahead v i us → t ≡ true → (ws : Items) × Ahead v k ws × (next_file us ≡ next_file ws)
     ahead_padding us a e = let m = ahead_entry us a in (m.1, m.6, ap next_file m.2 ∙ next_padding m.0 m.1 (sym m.3 ∙ e))
 
-    pub ahead_file : (us : Items) → Ahead v i us → t ≡ false → NextIs v (next_file us) (Entry t n p k)
+    pub ahead_file : (us : Items) → Ahead v i us → t ≡ false → NextIs v (next_file us) (entry_read t n p k)
     ahead_file us a e =
         let m = ahead_entry us a in
         let z : (entry_of m.0).padding ≡ false = sym m.3 ∙ e in
-        next_file_is v us (entry_of m.0) m.1 (Entry t n p k) (ap next_file m.2 ∙ next_one m.0 m.1 z)
+        next_file_is v us (entry_of m.0) m.1 (entry_read t n p k) (ap next_file m.2 ∙ next_one m.0 m.1 z)
         (p, k, entry_same t false n (entry_of m.0).size p k e m.4, z, m.5, m.6)
 
 -- ---- the walk to the next file
@@ -96,24 +92,24 @@ pub seek_start : (v : List ℕ) (at : ℕ) → Seeking v at at
 seek_start v at = record { in_order = omega arith; same = λ us a. (us, a, refl) }
 
 module _ (v : List ℕ) (at i : ℕ) (w : Seeking v at i) where
-  pub seek_bad : Reads v i BadEntry → NextReads v at BadEntry
+  pub seek_bad : Reads v i malformed → NextReads v at malformed
   seek_bad s = record { ends = tt; next = λ us a. let m = w.same us a in absurd (ahead_bad v i m.0 m.1 s) }
 
-  pub seek_ended : Reads v i Ended → NextReads v at Ended
+  pub seek_ended : Reads v i ended → NextReads v at ended
   unfolding next_file
   seek_ended s = record { ends = tt; next = λ us a. let m = w.same us a in let e : next_file us ≡ no_file = m.2 ∙ ap next_file (ahead_ended v i m.0 m.1 s) in rw e refl }
 
-  pub seek_end : length v ≤ i → NextReads v at Ended
+  pub seek_end : length v ≤ i → NextReads v at ended
   seek_end h = record { ends = tt; next = λ us a. let m = w.same us a in absurd (ahead_inside v i m.0 m.1 h) }
 
-  module _ (t : Bool) (n p k : ℕ) (s : Reads v i (Entry t n p k)) where
-    pub seek_file : t ≡ false → NextReads v at (Entry t n p k)
+  module _ (t : Bool) (n p k : ℕ) (s : Reads v i (entry_read t n p k)) where
+    pub seek_file : t ≡ false → NextReads v at (entry_read t n p k)
     seek_file e =
         let x = s.ends in
         let o = w.in_order in
         record { ends = (omega (arith, x.0), x.1); next = λ us a. let m = w.same us a in moved (next_file us) (next_file m.0) m.2 (ahead_file v i t n p k s m.0 m.1 e) }
       where
-        moved : (x y : Next) → x ≡ y → NextIs v y (Entry t n p k) → NextIs v x (Entry t n p k)
+        moved : (x y : Next) → x ≡ y → NextIs v y (entry_read t n p k) → NextIs v x (entry_read t n p k)
         moved x y q h = rw q h
 
     pub seek_more : t ≡ true → Seeking v at k

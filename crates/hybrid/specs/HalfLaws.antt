@@ -1,12 +1,14 @@
 -- The v1 half beside the tree, from the tally and the walk.
 -- Assumes nothing.
-use Rattle.std.specs.Prelude.{◌≡◌, refl, Bool, false, cond, ◌&&◌, List, [], ℕ, ◌-◌, ◌*◌, ◌^◌, ◌≤◌, ◌<◌, length, drop}
+use Rattle.hybrid.specs.Tally.{sums}
+use Rattle.hybrid.specs.Compare.{past}
+use Rattle.std.specs.Prelude.{◌≡◌, refl, Bool, false, cond, ◌&&◌, List, [], ℕ, ◌-◌, ◌*◌, ◌^◌, ◌≤◌, ◌<◌, length, drop, Option, None, Some}
 use Rattle.std.proofs.Math.Path.{sym, ap}
-use Rattle.std.proofs.Common.{◌∙◌, arith}
+use Rattle.std.proofs.Common.{◌∙◌, arith, eqb-true, eq-eqb, ne_eqb, le-leb}
 use Rattle.std.proofs.Math.Bool.{true, false≢true, and-eq-true_iff, and-false}
 use Rattle.std.proofs.lemmas.List.{length-map}
 use Rattle.std.proofs.Math.Dec.{eqb, leb}
-use borrow.Author.Tests.{eqb-true, eq-eqb, ne_eqb, le-leb, lt-leb}
+use Rattle.std.proofs.lemmas.Bool.{lt-leb}
 use Rattle.bencode.specs.Grammar.{Items}
 use Rattle.filetree.specs.Token.{ends_here}
 use Rattle.filetree.specs.Tree.{max_elements, Listed, files, files_below, files_in}
@@ -26,14 +28,10 @@ use Rattle.limits.specs.Limits.{largest_torrent}
 use Rattle.bencode.specs.Parts.{Lookup}
 use Rattle.tree.specs.Geometry.{piece_count}
 use Rattle.tree.proofs.GeometryLaws.{ceil_enough}
-use Rattle.hybrid.specs.declared.Tallied.TheVariants.{Sums, Amiss}
 use Rattle.hybrid.specs.declared.Compared.{Compared}
-use Rattle.hybrid.specs.declared.Compared.TheVariants.{Past, Differ}
-use Rattle.hybrid.specs.declared.HalfRead.{HalfRead}
-use Rattle.hybrid.specs.declared.HalfRead.TheVariants.{Bytes, Misfit}
 
 -- one of four tests fails
-misfit : (a b c d : Bool) (r : HalfRead) → (a ≡ true → c ≡ true → d ≡ true → b ≡ true → ⊥) → cond (a && (b && (c && d))) r Misfit ≡ Misfit
+misfit : (a b c d : Bool) (r : Option ℕ) → (a ≡ true → c ≡ true → d ≡ true → b ≡ true → ⊥) → cond (a && (b && (c && d))) r None ≡ None
 misfit false b c d r h = refl
 misfit true false c d r h = refl
 misfit true true false d r h = refl
@@ -45,13 +43,13 @@ module _ (v : List ℕ) (plen : ℕ) (vs : Items) (gs : List File) where
   es = entries_in vs
 
   -- something is malformed, or between boundaries, or too long
-  pub several_amiss : Amiss ≡ tallied_of plen vs → Misfit ≡ several_of plen vs gs
+  pub several_amiss : None ≡ tallied_of plen vs → None ≡ several_of plen vs gs
   unfolding half_of
   several_amiss e =
-      sym (misfit (items_fit vs) (same_files (files_among es) gs) (on_boundary plen 0 es) (leb (total es) most_bytes) (Bytes (total es))
+      sym (misfit (items_fit vs) (same_files (files_among es) gs) (on_boundary plen 0 es) (leb (total es) most_bytes) (Some (total es))
       (λ f b l s. let x = tally_amiss plen 0 0 vs (omega arith) (sym e) f b in false≢true (sym (lt-leb (total es) most_bytes (omega arith)) ∙ l)))
 
-  module _ (g n : ℕ) (e : Sums g n ≡ tallied_of plen vs) where
+  module _ (g n : ℕ) (e : sums g n ≡ tallied_of plen vs) where
     means : Means plen 0 0 vs g n
     means = tally_sums plen 0 0 vs g n (omega arith) (sym e)
 
@@ -59,26 +57,26 @@ module _ (v : List ℕ) (plen : ℕ) (vs : Items) (gs : List File) where
     same_as : same_files (files_among es) gs ≡ met (after_files vs gs) && eqb g (length gs)
     same_as = let c : length (files_among es) ≡ g = omega (arith, means.count) in same_exactly vs gs ∙ ap (λ (k : ℕ). met (after_files vs gs) && eqb k (length gs)) c
 
-    not_same : same_files (files_among es) gs ≡ false → Misfit ≡ several_of plen vs gs
+    not_same : same_files (files_among es) gs ≡ false → None ≡ several_of plen vs gs
     unfolding half_of
-    not_same q = sym (misfit (items_fit vs) (same_files (files_among es) gs) (on_boundary plen 0 es) (leb (total es) most_bytes) (Bytes (total es)) (λ f b l s. false≢true (sym q ∙ s)))
+    not_same q = sym (misfit (items_fit vs) (same_files (files_among es) gs) (on_boundary plen 0 es) (leb (total es) most_bytes) (Some (total es)) (λ f b l s. false≢true (sym q ∙ s)))
 
     -- another count
-    pub several_count : (g ≡ length gs → ⊥) → Misfit ≡ several_of plen vs gs
+    pub several_count : (g ≡ length gs → ⊥) → None ≡ several_of plen vs gs
     several_count h = not_same (same_as ∙ ap (λ (b : Bool). met (after_files vs gs) && b) (ne_eqb g (length gs) h) ∙ and-false (met (after_files vs gs)))
 
     -- a file differs
-    pub several_differ : after_files vs gs ≡ differ → Misfit ≡ several_of plen vs gs
+    pub several_differ : after_files vs gs ≡ differ → None ≡ several_of plen vs gs
     several_differ h = not_same (same_as ∙ ap (λ (l : Left). met l && eqb g (length gs)) h)
 
     -- all are the same
-    pub several_same : g ≡ length gs → (us : Items) → after_files vs gs ≡ left us → Bytes n ≡ several_of plen vs gs
+    pub several_same : g ≡ length gs → (us : Items) → after_files vs gs ≡ left us → Some n ≡ several_of plen vs gs
     unfolding half_of
     several_same h us q =
         let s : same_files (files_among es) gs ≡ true = same_as ∙ ap (λ (l : Left). met l && eqb g (length gs)) q ∙ eq-eqb g (length gs) h in
         let m : n ≡ total es = omega (arith, means.bytes) in
         let l : leb (total es) most_bytes ≡ true = le-leb (total es) most_bytes (omega (arith, means.few)) in
-        sym (rw (means.fit, s, means.boundary, l) (ap Bytes (sym m)))
+        sym (rw (means.fit, s, means.boundary, l) (ap Some (sym m)))
 
     pub list_ahead : Encodes v vs → Ahead v 1 vs
     list_ahead c = record { items = list_items v vs c; valid = list_valid v vs c; fit = means.fit }
@@ -102,20 +100,20 @@ unfolding AllInside
 no_elements_lem n = tt
 
 module _ (t v : List ℕ) (path₀ path : List ℕ) (fs : List Listed) (k : ℕ) (e : files_in t ≡ files fs k) (vs : Items) (a : Ahead v 1 vs) where
-  outcome : (r : Compared) → Compares t v 1 max_elements 1 path₀ path r → OutcomeIs v k (after_files vs (read_files t fs)) r
+  outcome : (r : Option Compared) → Compares t v 1 max_elements 1 path₀ path r → OutcomeIs v k (after_files vs (read_files t fs)) r
   outcome r x = x.compares [] (no_path path₀) (no_elements_lem (length t)) fs k (whole_tree t fs k e) vs a
 
-  pub walk_differs : Compares t v 1 max_elements 1 path₀ path Differ → after_files vs (read_files t fs) ≡ differ
-  walk_differs x = by_left (after_files vs (read_files t fs)) (outcome Differ x)
+  pub walk_differs : Compares t v 1 max_elements 1 path₀ path None → after_files vs (read_files t fs) ≡ differ
+  walk_differs x = by_left (after_files vs (read_files t fs)) (outcome None x)
     where
-      by_left : (l : Left) → OutcomeIs v k l Differ → l ≡ differ
+      by_left : (l : Left) → OutcomeIs v k l None → l ≡ differ
       by_left differ q = refl
       by_left (left us) q = let y = q.1 in let z : ◌≡◌ {A = ℕ} 0 1 = cc in absurd (omega arith)
 
-  pub walk_same : (j d : ℕ) → Compares t v 1 max_elements 1 path₀ path (Past j d) → (us : Items) × (after_files vs (read_files t fs) ≡ left us)
-  walk_same j d x = by_left (after_files vs (read_files t fs)) (outcome (Past j d) x)
+  pub walk_same : (j d : ℕ) → Compares t v 1 max_elements 1 path₀ path (past j d) → (us : Items) × (after_files vs (read_files t fs) ≡ left us)
+  walk_same j d x = by_left (after_files vs (read_files t fs)) (outcome (past j d) x)
     where
-      by_left : (l : Left) → OutcomeIs v k l (Past j d) → (us : Items) × (l ≡ left us)
+      by_left : (l : Left) → OutcomeIs v k l (past j d) → (us : Items) × (l ≡ left us)
       by_left differ q = let z : ◌≡◌ {A = ℕ} 0 1 = cc in absurd (omega arith)
       by_left (left us) q = (us, refl)
 
@@ -150,7 +148,7 @@ half_decides plen ok es gs x l h g = by_tests ok (same_files (files_among es) gs
     too_many true p q = absurd (false≢true (sym q ∙ le-leb (total es) most_bytes (few_enough plen (total es) x l h g p)))
 
     by_tests : (a b c d : Bool) → leb (total es) most_bytes ≡ d
-        → fits_with plen x (cond (a && (b && (c && d))) (Bytes (total es)) Misfit) ≡ a && (b && (c && pieces_fit plen (total es) x))
+        → fits_with plen x (cond (a && (b && (c && d))) (Some (total es)) None) ≡ a && (b && (c && pieces_fit plen (total es) x))
     by_tests false b c d q = refl
     by_tests true false c d q = refl
     by_tests true true false d q = refl

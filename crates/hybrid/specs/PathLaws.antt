@@ -1,18 +1,18 @@
 -- A path of `files` and one of the tree, compared element by element.
 -- Assumes nothing.
+use Rattle.bencode.specs.EndsLaws.{same_part}
+use Rattle.bencode.specs.Scalar.{part}
 use Rattle.std.proofs.Math.Path.{◌≡◌, sym, ap}
-use Rattle.std.specs.Prelude.{refl, Bool, true, ◌&&◌, ℕ, zero, suc, ◌+◌, ◌-◌, ◌*◌, ◌≤◌, ◌<◌, length, get_or}
+use Rattle.std.specs.Prelude.{refl, Bool, true, ◌&&◌, ℕ, zero, suc, ◌+◌, ◌-◌, ◌*◌, ◌≤◌, ◌<◌, length, get_or, List, [], ◌∷◌, ◌++◌, None}
 use Rattle.std.proofs.Common.{ap₂, ◌∙◌, arith}
 use Rattle.std.proofs.Math.Bool.{false, and-eq-true_iff}
 use Rattle.std.proofs.lemmas.Bool.{false≢true}
-use mathlib.Core.List.{List, [], ◌∷◌, ◌++◌}
 use Rattle.std.proofs.Math.ListN.{drop, drop_of_length-le}
 use Rattle.octets.specs.Octets.{cut, same}
 use Rattle.bencode.specs.Grammar.{letter_l, integer, string, list, dictionary, Items, no_items, item, encode, encode_items, encode_string}
 use Rattle.bencode.specs.Scalar.{read_string, read_number, read_digits}
 use Rattle.bencode.specs.CompleteLaws.{content_start}
 use Rattle.bencode.specs.PartsLaws.{string_is, content_is, after_part}
-use Rattle.bencode.specs.declared.scalar.ByteString.TheVariants.{Content, NoString}
 use Rattle.filetree.specs.Token.{ends_here}
 use Rattle.filetree.specs.Tree.{Element}
 use Rattle.filetree.specs.Path.{Holds}
@@ -27,8 +27,8 @@ use Rattle.hybrid.specs.Ahead.{AllInside}
 
 -- among names, none of them empty: the list's end, or one
 pub data Look (v : List ℕ) (i : ℕ) (us : Items) (rest : List ℕ) : Type 0 where
-  ended : us ≡ no_items → read_string i (drop i v) ≡ NoString → ends_here (drop i v) ≡ true → Look v i us rest
-  one : (c : List ℕ) (ws : Items) → us ≡ item (string c) ws → read_string i (drop i v) ≡ Content (content_start i c) (i + length (encode_string c)) → ends_here (drop i v) ≡ false
+  ended : us ≡ no_items → read_string i (drop i v) ≡ None → ends_here (drop i v) ≡ true → Look v i us rest
+  one : (c : List ℕ) (ws : Items) → us ≡ item (string c) ws → read_string i (drop i v) ≡ part (content_start i c) (i + length (encode_string c)) → ends_here (drop i v) ≡ false
       → cut v (content_start i c) (i + length (encode_string c) - content_start i c) ≡ c → ItemsAt v (i + length (encode_string c)) ws rest → names_full ws ≡ true → Look v i us rest
 
 -- a string's encoding
@@ -37,7 +37,7 @@ unfolding encode
 string_bytes c = refl
 
 -- at the list's end no string stands
-no_string : (v : List ℕ) (i : ℕ) (rest : List ℕ) → ItemsAt v i no_items rest → read_string i (drop i v) ≡ NoString
+no_string : (v : List ℕ) (i : ℕ) (rest : List ℕ) → ItemsAt v i no_items rest → read_string i (drop i v) ≡ None
 unfolding encode read_number read_digits
 no_string v i rest e = rw e refl
 
@@ -124,7 +124,7 @@ module _ (t path : List ℕ) (depth : ℕ) (v : List ℕ) (at i k : ℕ) (w : Co
     compare_outside r l ws s f p kp = let b = (in_tree p kp).1 in absurd (omega arith)
 
     -- the names end before the elements
-    pub compare_short : read_string i (drop i v) ≡ NoString → Says false
+    pub compare_short : read_string i (drop i v) ≡ None → Says false
     unfolding same_path names_of
     compare_short e ws s f p kp =
         let m = w.same_so_far ws s f p kp in
@@ -135,7 +135,7 @@ module _ (t path : List ℕ) (depth : ℕ) (v : List ℕ) (at i k : ℕ) (w : Co
         by_look us rest (ended eu es ee) q = sym (q ∙ ap (λ (x : Items). same_path (names_of x) (elements t (element_number p k ∷ drop (suc k) p))) eu)
         by_look us rest (one c xs eu es ee ec ei ef) q = let z = sym e ∙ es in let y : ◌≡◌ {A = ℕ} 0 1 = cc in absurd (omega arith)
 
-    module _ (a b : ℕ) (e : read_string i (drop i v) ≡ Content a b) (b0 : Bool)
+    module _ (a b : ℕ) (e : read_string i (drop i v) ≡ part a b) (b0 : Bool)
         (eb : b0 ≡ same (cut v a (b - a)) (cut t (get_or path (2 * k) 0) (get_or path (2 * k + 1) 0 - get_or path (2 * k) 0))) where
       -- one name, and one element
       both : (ws : Items) (s : StandsAt v at (list ws)) (f : names_full ws ≡ true) (p : List Element) (kp : Kept (length t) path depth p)
@@ -154,8 +154,9 @@ module _ (t path : List ℕ) (depth : ℕ) (v : List ℕ) (at i k : ℕ) (w : Co
           by_look us rest (ended eu es ee) q = let z = sym e ∙ es in let y : ◌≡◌ {A = ℕ} 0 1 = cc in absurd (omega arith)
           by_look us rest (one c xs eu es ee ec ei ef) q =
               let z = sym e ∙ es in
-              let ea : a ≡ content_start i c = cc in
-              let en : b ≡ i + length (encode_string c) = cc in
+              let ends = same_part _ _ _ _ z in
+              let ea = ends.0 in
+              let en = ends.1 in
               let name : cut v a (b - a) ≡ c = ap₂ (λ (x y : ℕ). cut v x (y - x)) ea en ∙ ec in
               let test : b0 ≡ same c (element t (element_number p k)) = eb ∙ ap₂ (λ (x : List ℕ) (y : List ℕ). same x y) name (ap₂ (λ (x y : ℕ). cut t x (y - x)) el.0 el.1) in
               (xs, rest, rw en ei, ef, q ∙ ap (λ (x : Items). same_path (names_of x) (elements t (element_number p k ∷ drop (suc k) p))) eu ∙ ap (λ (u : Bool). u && same_path (names_of xs) (elements t (drop (suc k) p))) (sym test))

@@ -1,10 +1,12 @@
 -- The tally as a walk comes to it; and what it says of the entries: each well formed, each file on a boundary, how many files, how many bytes.
 -- Assumes nothing.
-use Rattle.std.specs.Prelude.{◌≡◌, refl, Bool, true, false, cond, ◌&&◌, ◌||◌, ℕ, ◌+◌, ◌-◌, ◌%◌, ◌≤◌, ◌<◌, length, drop, eqb, leb}
+use Rattle.hybrid.specs.declared.EntryRead.{EntryRead}
+use Rattle.hybrid.specs.declared.Malformed.{Malformed}
+use Rattle.hybrid.specs.Tally.{sums}
+use Rattle.std.specs.Prelude.{◌≡◌, refl, Bool, true, false, cond, ◌&&◌, ◌||◌, ℕ, ◌+◌, ◌-◌, ◌%◌, ◌≤◌, ◌<◌, length, drop, eqb, leb, List, [], ◌∷◌, ◌++◌, None, Option, Result, unwrap_or}
 use Rattle.std.proofs.Math.Path.{sym, ap}
-use Rattle.std.proofs.Common.{◌∙◌, arith, leb-true, leb-false, le-leb}
+use Rattle.std.proofs.Common.{◌∙◌, arith, leb-true, leb-false, le-leb, append-nil}
 use Rattle.std.proofs.Math.Bool.{and-eq-true_iff}
-use mathlib.Core.List.{List, [], ◌∷◌, ◌++◌, append-nil}
 use Rattle.std.proofs.lemmas.Bool.{lt-leb}
 use Rattle.meaning.proofs.TestsLaws.{three_true}
 use Rattle.limits.specs.Limits.{max_levels}
@@ -13,12 +15,11 @@ use Rattle.bencode.specs.DepthLaws.{more_levels}
 use Rattle.bencode.specs.PartsLaws.{after_part}
 use Rattle.filetree.specs.Token.{ends_here}
 use Rattle.halves.specs.V1Half.{V1Entry, entry_fits, entry_of, items_fit, entries_in, total, files_among, on_boundary}
-use Rattle.hybrid.specs.Entry.{StandsAt, Reads}
+use Rattle.hybrid.specs.declared.Tallied.{Tallied}
+use Rattle.hybrid.specs.EntryLaws.{same_entry}
+use Rattle.hybrid.specs.Entry.{StandsAt, Reads, malformed, ended, entry_read}
 use Rattle.hybrid.specs.EntryLaws.{ItemsAt, items_ended, items_some, items_inside}
 use Rattle.hybrid.specs.Tally.{Encodes, most_bytes, tallied_from, tallied_of}
-use Rattle.hybrid.specs.declared.V1Token.{V1Token}
-use Rattle.hybrid.specs.declared.V1Token.TheVariants.{Entry, Ended, BadEntry}
-use Rattle.hybrid.specs.declared.Tallied.TheVariants.{Sums, Amiss}
 
 -- ---- how far the walk has come
 
@@ -53,7 +54,7 @@ module _ (v : List ℕ) (plen i files sum : ℕ) (vs : Items) (t : Tallying v pl
   tally_inside h = items_inside v i t.us [] t.items h
 
   -- at the list's end
-  pub tally_ended : ends_here (drop i v) ≡ true → Sums files sum ≡ tallied_of plen vs
+  pub tally_ended : ends_here (drop i v) ≡ true → sums files sum ≡ tallied_of plen vs
   unfolding tallied_from
   tally_ended h = sym (t.same ∙ ap (tallied_from plen files sum) (items_ended v i t.us [] t.items h))
 
@@ -70,33 +71,33 @@ module _ (v : List ℕ) (plen i files sum : ℕ) (vs : Items) (t : Tallying v pl
     -- one entry
     step : tallied_of plen vs
         ≡ cond (entry_fits some.0 && (((entry_of some.0).padding || eqb (sum % plen) 0) && leb (entry_of some.0).size (most_bytes - sum)))
-        (tallied_from plen (cond (entry_of some.0).padding files (files + 1)) (sum + (entry_of some.0).size) some.1) Amiss
+        (tallied_from plen (cond (entry_of some.0).padding files (files + 1)) (sum + (entry_of some.0).size) some.1) None
     unfolding tallied_from
     step = t.same ∙ ap (tallied_from plen files sum) some.2
 
     -- that is malformed
-    pub tally_bad : Reads v i BadEntry → Amiss ≡ tallied_of plen vs
+    pub tally_bad : Reads v i malformed → None ≡ tallied_of plen vs
     tally_bad r = by_fit (entry_fits some.0) refl
       where
-        by_fit : (f : Bool) → entry_fits some.0 ≡ f → Amiss ≡ tallied_of plen vs
+        by_fit : (f : Bool) → entry_fits some.0 ≡ f → None ≡ tallied_of plen vs
         by_fit true e = let p = (r.item some.0 stands).fits e in let z : ◌≡◌ {A = ℕ} 0 1 = (let q = p.1 in cc) in absurd (omega arith)
         by_fit false e = sym (step ∙ rw e refl)
 
-    module _ (padding : Bool) (n p k : ℕ) (r : Reads v i (Entry padding n p k)) where
+    module _ (padding : Bool) (n p k : ℕ) (r : Reads v i (entry_read padding n p k)) where
       fits : (entry_fits some.0 ≡ true) × (padding ≡ (entry_of some.0).padding) × (n ≡ (entry_of some.0).size) × (k ≡ i + length (encode some.0))
       fits = by_fit (entry_fits some.0) refl
         where
           by_fit : (f : Bool) → entry_fits some.0 ≡ f
               → (entry_fits some.0 ≡ true) × (padding ≡ (entry_of some.0).padding) × (n ≡ (entry_of some.0).size) × (k ≡ i + length (encode some.0))
-          by_fit true e = let q = ((r.item some.0 stands).fits e).1 in let a : padding ≡ (entry_of some.0).padding = cc in let b : n ≡ (entry_of some.0).size = cc in let c : k ≡ i + length (encode some.0) = cc in (e, a, b, c)
+          by_fit true e = let q = (r.item some.0 stands).fits e in let o = same_entry padding (entry_of some.0).padding n (entry_of some.0).size p q.0 k (i + length (encode some.0)) q.1 in (e, o.0, o.1, o.3)
           by_fit false e = let q = (r.item some.0 stands).amiss e in let z : ◌≡◌ {A = ℕ} 0 1 = cc in absurd (omega arith)
 
       -- that is a file, and not on a boundary
-      pub tally_between : (padding || eqb (sum % plen) 0) ≡ false → Amiss ≡ tallied_of plen vs
+      pub tally_between : (padding || eqb (sum % plen) 0) ≡ false → None ≡ tallied_of plen vs
       tally_between e = sym (step ∙ rw (fits.0, sym fits.1, e) refl)
 
       -- with which there are too many bytes
-      pub tally_many : (padding || eqb (sum % plen) 0) ≡ true → most_bytes - sum < n → Amiss ≡ tallied_of plen vs
+      pub tally_many : (padding || eqb (sum % plen) 0) ≡ true → most_bytes - sum < n → None ≡ tallied_of plen vs
       tally_many e l = sym (step ∙ rw (fits.0, sym fits.1, e, sym fits.2, lt-leb n (most_bytes - sum) l) refl)
 
       -- that is well
@@ -112,30 +113,30 @@ module _ (v : List ℕ) (plen i files sum : ℕ) (vs : Items) (t : Tallying v pl
 -- ---- by what was read
 
 module _ (v : List ℕ) (plen i files sum : ℕ) (vs : Items) (t : Tallying v plen i files sum vs) where
-  pub read_ended : Reads v i Ended → Sums files sum ≡ tallied_of plen vs
+  pub read_ended : Reads v i ended → sums files sum ≡ tallied_of plen vs
   read_ended r = by_end (ends_here (drop i v)) refl
     where
       by_fit : (h : ends_here (drop i v) ≡ false) (f : Bool) → entry_fits (some v plen i files sum vs t h).0 ≡ f → ⊥
       by_fit h true e = let q = ((r.item (some v plen i files sum vs t h).0 (stands v plen i files sum vs t h)).fits e).1 in let z : ◌≡◌ {A = ℕ} 0 1 = cc in omega arith
       by_fit h false e = let q = (r.item (some v plen i files sum vs t h).0 (stands v plen i files sum vs t h)).amiss e in let z : ◌≡◌ {A = ℕ} 0 1 = cc in omega arith
 
-      by_end : (b : Bool) → ends_here (drop i v) ≡ b → Sums files sum ≡ tallied_of plen vs
+      by_end : (b : Bool) → ends_here (drop i v) ≡ b → sums files sum ≡ tallied_of plen vs
       by_end true h = tally_ended v plen i files sum vs t h
       by_end false h = absurd (by_fit h (entry_fits (some v plen i files sum vs t h).0) refl)
 
 -- what is no end
-not_ended : (v : List ℕ) (i : ℕ) (r : V1Token) → Reads v i r → (r ≡ Ended → ⊥) → ends_here (drop i v) ≡ false
+not_ended : (v : List ℕ) (i : ℕ) (r : Result (Option EntryRead) Malformed) → Reads v i r → (r ≡ ended → ⊥) → ends_here (drop i v) ≡ false
 not_ended v i r s n = by_end (ends_here (drop i v)) refl
   where
     by_end : (b : Bool) → ends_here (drop i v) ≡ b → b ≡ false
     by_end true h = absurd (n (s.closed h))
     by_end false h = refl
 
-pub bad_no_end : (v : List ℕ) (i : ℕ) → Reads v i BadEntry → ends_here (drop i v) ≡ false
-bad_no_end v i r = not_ended v i BadEntry r (λ e. let z : ◌≡◌ {A = ℕ} 0 1 = cc in omega arith)
+pub bad_no_end : (v : List ℕ) (i : ℕ) → Reads v i malformed → ends_here (drop i v) ≡ false
+bad_no_end v i r = not_ended v i malformed r (λ e. let z : ◌≡◌ {A = ℕ} 0 1 = cc in omega arith)
 
-pub entry_no_end : (v : List ℕ) (i : ℕ) (padding : Bool) (n p k : ℕ) → Reads v i (Entry padding n p k) → ends_here (drop i v) ≡ false
-entry_no_end v i padding n p k r = not_ended v i (Entry padding n p k) r (λ e. let z : ◌≡◌ {A = ℕ} 0 1 = cc in omega arith)
+pub entry_no_end : (v : List ℕ) (i : ℕ) (padding : Bool) (n p k : ℕ) → Reads v i (entry_read padding n p k) → ends_here (drop i v) ≡ false
+entry_no_end v i padding n p k r = not_ended v i (entry_read padding n p k) r (λ e. let z : ◌≡◌ {A = ℕ} 0 1 = cc in omega arith)
 
 -- one more is counted at most
 pub counted_few : (t : Bool) (files g i k : ℕ) → g ≡ cond t files (files + 1) → files ≤ i → i < k → g ≤ k
@@ -156,11 +157,12 @@ counted_among true e es files = refl
 counted_among false e es files = omega arith
 
 -- sums: each entry is well formed, each file on a boundary
-pub tally_sums : (plen files sum : ℕ) (vs : Items) (g n : ℕ) → sum ≤ most_bytes → tallied_from plen files sum vs ≡ Sums g n → Means plen files sum vs g n
+pub tally_sums : (plen files sum : ℕ) (vs : Items) (g n : ℕ) → sum ≤ most_bytes → tallied_from plen files sum vs ≡ sums g n → Means plen files sum vs g n
 unfolding tallied_from items_fit on_boundary files_among entries_in total
 tally_sums plen files sum no_items g n l e =
-    let a : files ≡ g = cc in
-    let b : sum ≡ n = cc in
+    let the : Option Tallied → Tallied = λ w. unwrap_or w (record { files = files; total = sum }) in
+    let a : files ≡ g = ap (λ w. (the w).files) e in
+    let b : sum ≡ n = ap (λ w. (the w).total) e in
     record { fit = refl; boundary = refl; count = omega arith; bytes = omega arith; few = omega arith }
 tally_sums plen files sum (item x vs) g n l e = by_test (entry_fits x && (near && few)) refl e (λ h f. tally_sums plen (cond (entry_of x).padding files (files + 1)) (sum + (entry_of x).size) vs g n h f)
   where
@@ -171,8 +173,8 @@ tally_sums plen files sum (item x vs) g n l e = by_test (entry_fits x && (near &
     few = leb (entry_of x).size (most_bytes - sum)
 
     by_test : (b : Bool) → entry_fits x && (near && few) ≡ b
-        → cond b (tallied_from plen (cond (entry_of x).padding files (files + 1)) (sum + (entry_of x).size) vs) Amiss ≡ Sums g n
-        → (sum + (entry_of x).size ≤ most_bytes → tallied_from plen (cond (entry_of x).padding files (files + 1)) (sum + (entry_of x).size) vs ≡ Sums g n → Means plen (cond (entry_of x).padding files (files + 1)) (sum + (entry_of x).size) vs g n)
+        → cond b (tallied_from plen (cond (entry_of x).padding files (files + 1)) (sum + (entry_of x).size) vs) None ≡ sums g n
+        → (sum + (entry_of x).size ≤ most_bytes → tallied_from plen (cond (entry_of x).padding files (files + 1)) (sum + (entry_of x).size) vs ≡ sums g n → Means plen (cond (entry_of x).padding files (files + 1)) (sum + (entry_of x).size) vs g n)
         → Means plen files sum (item x vs) g n
     by_test false q f i = let z : ◌≡◌ {A = ℕ} 0 1 = cc in absurd (omega arith)
     by_test true q f i =
@@ -189,7 +191,7 @@ tally_sums plen files sum (item x vs) g n l e = by_test (entry_fits x && (near &
         }
 
 -- amiss, though all that is right: too many bytes for any `pieces`
-pub tally_amiss : (plen files sum : ℕ) (vs : Items) → sum ≤ most_bytes → tallied_from plen files sum vs ≡ Amiss → items_fit vs ≡ true → on_boundary plen sum (entries_in vs) ≡ true
+pub tally_amiss : (plen files sum : ℕ) (vs : Items) → sum ≤ most_bytes → tallied_from plen files sum vs ≡ None → items_fit vs ≡ true → on_boundary plen sum (entries_in vs) ≡ true
     → most_bytes < sum + total (entries_in vs)
 unfolding tallied_from items_fit on_boundary entries_in total
 tally_amiss plen files sum no_items l e f b = let z : ◌≡◌ {A = ℕ} 0 1 = cc in absurd (omega arith)
@@ -199,8 +201,8 @@ tally_amiss plen files sum (item x vs) l e f b =
     by_few (leb (entry_of x).size (most_bytes - sum)) refl (rw (p.0, q.0) at e) (λ h g. tally_amiss plen (cond (entry_of x).padding files (files + 1)) (sum + (entry_of x).size) vs h g p.1 q.1)
   where
     by_few : (t : Bool) → leb (entry_of x).size (most_bytes - sum) ≡ t
-        → cond t (tallied_from plen (cond (entry_of x).padding files (files + 1)) (sum + (entry_of x).size) vs) Amiss ≡ Amiss
-        → (sum + (entry_of x).size ≤ most_bytes → tallied_from plen (cond (entry_of x).padding files (files + 1)) (sum + (entry_of x).size) vs ≡ Amiss → most_bytes < sum + (entry_of x).size + total (entries_in vs))
+        → cond t (tallied_from plen (cond (entry_of x).padding files (files + 1)) (sum + (entry_of x).size) vs) None ≡ None
+        → (sum + (entry_of x).size ≤ most_bytes → tallied_from plen (cond (entry_of x).padding files (files + 1)) (sum + (entry_of x).size) vs ≡ None → most_bytes < sum + (entry_of x).size + total (entries_in vs))
         → most_bytes < sum + ((entry_of x).size + total (entries_in vs))
     by_few true h g i = let y = leb-true (entry_of x).size (most_bytes - sum) h in let z = i (omega arith) g in omega arith
     by_few false h g i = let y = leb-false (entry_of x).size (most_bytes - sum) h in omega arith

@@ -25,76 +25,63 @@ ghost use Rattle.hybrid.specs.PathLaws.{Kept};
 ghost use Rattle.hybrid.specs.Entry.{StandsAt, natural_in, attr_in, PathFoundIs, is_list, EntryReads, Reads, with_path};
 
 use bencode::order::same;
-use bencode::parts::{Found, find, is_dictionary};
-use bencode::scalar::{ByteString, Integer, read_integer, read_string};
-use bencode::walk::{Walked, value_end};
+use bencode::part::Part;
+use bencode::parts::{find, is_dictionary};
+use bencode::scalar::{Integer, read_integer, read_string};
+use bencode::walk::value_end;
 use filetree::count::ELEMENTS;
 use filetree::path::{PATH, set_element};
 use filetree::token::{Token, ends_here, read_token};
 use limits::LEVELS;
-
-// A number that is not negative.
-#[derive(Clone, Copy)]
-pub enum Natural {
-    Is(usize),
-    NoNatural,
-}
 
 // What `attr` says of an entry.
 #[derive(Clone, Copy)]
 pub enum Attr {
     Plain,
     Padding,
-    BadAttr,
 }
 
-// Where the list of a path stands.
+// An entry of `files`: its length, where its path stands (0 where it is left out) and the position behind it.
 #[derive(Clone, Copy)]
-pub enum PathFound {
-    At(usize),
-    LeftOut,
-    BadPath,
+pub struct EntryRead {
+    pub padding: bool,
+    pub length: usize,
+    pub path: usize,
+    pub next: usize,
 }
 
-// What stands next in `files`: an entry, with its length, where its path stands (0 where it is left out) and the position behind it.
+// Why an entry is none: a key is missing or not of its type.
 #[derive(Clone, Copy)]
-pub enum V1Token {
-    Entry {
-        padding: bool,
-        length: usize,
-        path: usize,
-        next: usize,
-    },
-    Ended,
-    BadEntry,
-}
+pub struct Malformed;
 
 // The integer at `at`, if it is not negative.
-fn natural_at(bytes: &[u8], at: usize) -> Natural
+fn natural_at(bytes: &[u8], at: usize) -> Option<usize>
     ensures { (x : Value) → StandsAt bytes.now at x → result ≡ natural_in (present x) }
 {
     match read_integer(bytes, at) {
-        Integer::NoInteger => Natural::NoNatural,
-        Integer::Whole {
-            minus,
-            size,
-            next: _,
-        } => {
+        None => None,
+        Some(
+            Integer {
+                minus,
+                size,
+                next: _,
+            },
+        ) => {
             if minus {
-                return Natural::NoNatural;
+                return None;
             }
-            Natural::Is(size)
+            Some(size)
         }
     }
 }
 
-// The `length` of the entry at `at`.
-pub fn length_of(bytes: &[u8], at: usize) -> Natural
+// The `length` of the entry at `at`, if it has one that is not negative.
+pub fn length_of(bytes: &[u8], at: usize) -> Option<usize>
     ensures { (es : Entries) → StandsAt bytes.now at (dictionary es) → result ≡ natural_in (lookup key_length es) }
 {
     match find(bytes, at, b"length") {
-        Found::Missing => Natural::NoNatural,
-        Found::Part { start, end: _ } => natural_at(bytes, start),
+        None => None,
+        Some(Part { start, end: _ }) => natural_at(bytes, start),
     }
 }
 
@@ -103,38 +90,36 @@ fn without_p(bytes: &[u8], start: usize, end: usize) -> bool
     requires { (start ≤ end) × (end ≤ L.length bytes.now) }
     ensures { result ≡ without letter_p (cut bytes.now start (end - start)) }
 {
-    let mut i = start;
-    while i < end {
+    for i in start..end {
         if bytes[i] == b'p' {
             return false;
         }
-        i += 1;
     }
     true
 }
 
-// What the string at `at` says, as an `attr`.
-fn attr_at(bytes: &[u8], at: usize) -> Attr
+// What the string at `at` says, as an `attr`; none if no string stands there.
+fn attr_at(bytes: &[u8], at: usize) -> Option<Attr>
     ensures { (x : Value) → StandsAt bytes.now at x → result ≡ attr_in (present x) }
 {
     match read_string(bytes, at) {
-        ByteString::NoString => Attr::BadAttr,
-        ByteString::Content { start, end } => {
+        None => None,
+        Some(Part { start, end }) => {
             if without_p(bytes, start, end) {
-                return Attr::Plain;
+                return Some(Attr::Plain);
             }
-            Attr::Padding
+            Some(Attr::Padding)
         }
     }
 }
 
-// The `attr` of the entry at `at`.
-fn attr_of(bytes: &[u8], at: usize) -> Attr
+// The `attr` of the entry at `at`; none if it is no string.
+fn attr_of(bytes: &[u8], at: usize) -> Option<Attr>
     ensures { (es : Entries) → StandsAt bytes.now at (dictionary es) → result ≡ attr_in (lookup key_attr es) }
 {
     match find(bytes, at, b"attr") {
-        Found::Missing => Attr::Plain,
-        Found::Part { start, end: _ } => attr_at(bytes, start),
+        None => Some(Attr::Plain),
+        Some(Part { start, end: _ }) => attr_at(bytes, start),
     }
 }
 
@@ -148,10 +133,10 @@ fn names_full(bytes: &[u8], at: usize) -> bool
             return true;
         }
         match read_string(bytes, i) {
-            ByteString::NoString => {
+            None => {
                 return false;
             }
-            ByteString::Content { start, end } => {
+            Some(Part { start, end }) => {
                 if start == end {
                     return false;
                 }
@@ -173,98 +158,98 @@ pub fn is_list(bytes: &[u8], at: usize) -> bool
 }
 
 // Whether the value at `at` is a path: a list of strings, one or more, none of them empty.
-fn path_at(bytes: &[u8], at: usize) -> PathFound
+fn path_at(bytes: &[u8], at: usize) -> Result<Option<usize>, Malformed>
     ensures { (x : Value) → StandsAt bytes.now at x → PathFoundIs bytes.now (present x) result }
 {
     if bytes.len() <= at {
-        return PathFound::BadPath;
+        return Err(Malformed);
     }
     if !is_list(bytes, at) {
-        return PathFound::BadPath;
+        return Err(Malformed);
     }
     let first = at + 1;
     if ends_here(bytes, first) {
-        return PathFound::BadPath;
+        return Err(Malformed);
     }
     if names_full(bytes, first) {
-        return PathFound::At(at);
+        return Ok(Some(at));
     }
-    PathFound::BadPath
+    Err(Malformed)
 }
 
-// The `path` of the entry at `at`.
-fn path_of(bytes: &[u8], at: usize) -> PathFound
+// Where the `path` of the entry at `at` stands, if it has one.
+fn path_of(bytes: &[u8], at: usize) -> Result<Option<usize>, Malformed>
     ensures { (es : Entries) → StandsAt bytes.now at (dictionary es) → PathFoundIs bytes.now (lookup key_path es) result }
 {
     match find(bytes, at, b"path") {
-        Found::Missing => PathFound::LeftOut,
-        Found::Part { start, end: _ } => path_at(bytes, start),
+        None => Ok(None),
+        Some(Part { start, end: _ }) => path_at(bytes, start),
     }
 }
 
 // An entry with this path: padding may do without one.
-fn with_path(found: PathFound, padding: bool, length: usize, next: usize) -> V1Token
+fn with_path(
+    found: Result<Option<usize>, Malformed>,
+    padding: bool,
+    length: usize,
+    next: usize,
+) -> Result<Option<EntryRead>, Malformed>
     ensures { result ≡ with_path found padding length next }
 {
-    match found {
-        PathFound::BadPath => V1Token::BadEntry,
-        PathFound::At(path) => V1Token::Entry {
+    match found? {
+        Some(path) => Ok(Some(EntryRead {
             padding,
             length,
             path,
             next,
-        },
-        PathFound::LeftOut => {
+        })),
+        None => {
             if padding {
-                return V1Token::Entry {
+                return Ok(Some(EntryRead {
                     padding,
                     length,
                     path: 0,
                     next,
-                };
+                }));
             }
-            V1Token::BadEntry
+            Err(Malformed)
         }
     }
 }
 
 // The entry of the dictionary from `at` up to `next`.
-fn entry_at(bytes: &[u8], at: usize, next: usize) -> V1Token
+fn entry_at(bytes: &[u8], at: usize, next: usize) -> Result<Option<EntryRead>, Malformed>
     ensures { EntryReads bytes.now at next result }
 {
-    match length_of(bytes, at) {
-        Natural::NoNatural => V1Token::BadEntry,
-        Natural::Is(length) => match attr_of(bytes, at) {
-            Attr::BadAttr => V1Token::BadEntry,
-            Attr::Plain => with_path(path_of(bytes, at), false, length, next),
-            Attr::Padding => with_path(path_of(bytes, at), true, length, next),
-        },
+    let length = length_of(bytes, at).ok_or(Malformed)?;
+    let attr = attr_of(bytes, at).ok_or(Malformed)?;
+    match attr {
+        Attr::Plain => with_path(path_of(bytes, at), false, length, next),
+        Attr::Padding => with_path(path_of(bytes, at), true, length, next),
     }
 }
 
-// What stands at `at` in the list that stands in `bytes`.
-pub fn read_v1(bytes: &[u8], at: usize) -> V1Token
+// The entry that stands at `at` in the list that stands in `bytes`; none if the list ends there.
+pub fn read_v1(bytes: &[u8], at: usize) -> Result<Option<EntryRead>, Malformed>
     ensures { Reads bytes.now at result }
 {
     if ends_here(bytes, at) {
-        return V1Token::Ended;
+        return Ok(None);
     }
     if !is_dictionary(bytes, at) {
-        return V1Token::BadEntry;
+        return Err(Malformed);
     }
     match value_end(bytes, at, LEVELS) {
-        Walked::Broken => V1Token::BadEntry,
-        Walked::TooDeep => V1Token::BadEntry,
-        Walked::Past(next) => entry_at(bytes, at, next),
+        Err(_) => Err(Malformed),
+        Ok(next) => entry_at(bytes, at, next),
     }
 }
 
-// How many files a list has, and how many bytes all its entries, padding included; or something in it is malformed, a file does not
-// begin at a multiple of the piece length, or there are more bytes than a torrent can have pieces for.
+// How many files a list has, and how many bytes all its entries, padding included.
 #[derive(Clone, Copy)]
-pub enum Tallied {
-    Sums { files: usize, total: usize },
-    Amiss,
+pub struct Tallied {
+    pub files: usize,
+    pub total: usize,
 }
 
 // More bytes than the v1 pieces of the largest torrent cover.
@@ -292,75 +277,44 @@ fn counted(padding: bool, files: usize) -> usize
     files + 1
 }
 
-// The entries of `list`.
-pub fn tally(list: &[u8], plen: usize) -> Tallied
+// The entries of `list`; none if something in it is malformed, a file does not begin at a multiple of the piece length, or there are more
+// bytes than a torrent can have pieces for.
+pub fn tally(list: &[u8], plen: usize) -> Option<Tallied>
     requires { (0 < plen) × (L.length list.now ≤ largest_torrent) }
     ensures { (vs : Items) → Encodes list.now vs → result ≡ tallied_of plen vs }
 {
     let mut i = 1;
     let mut files = 0;
     let mut total = 0;
-    while i < list.len() {
-        match read_v1(list, i) {
-            V1Token::BadEntry => {
-                return Tallied::Amiss;
-            }
-            V1Token::Ended => {
-                return Tallied::Sums { files, total };
-            }
-            V1Token::Entry {
-                padding,
-                length,
-                path: _,
-                next,
-            } => {
-                if !stands_right(padding, total, plen) {
-                    return Tallied::Amiss;
-                }
-                if length > MOST_BYTES - total {
-                    return Tallied::Amiss;
-                }
-                files = counted(padding, files);
-                total += length;
-                i = next;
-            }
+    while let Some(entry) = read_v1(list, i).ok()? {
+        let padding = entry.padding;
+        let length = entry.length;
+        if !stands_right(padding, total, plen) {
+            return None;
         }
+        if length > MOST_BYTES - total {
+            return None;
+        }
+        files = counted(padding, files);
+        total += length;
+        i = entry.next;
     }
-    Tallied::Amiss
+    Some(Tallied { files, total })
 }
 
-// The next entry of `list` that is no padding, from `at` on.
-fn next_file(list: &[u8], at: usize) -> V1Token
+// The next entry of `list` that is no padding, from `at` on; none if the list ends before one.
+fn next_file(list: &[u8], at: usize) -> Result<Option<EntryRead>, Malformed>
     ensures { NextReads list.now at result }
 {
     let mut i = at;
-    while i < list.len() {
-        match read_v1(list, i) {
-            V1Token::BadEntry => {
-                return V1Token::BadEntry;
-            }
-            V1Token::Ended => {
-                return V1Token::Ended;
-            }
-            V1Token::Entry {
-                padding,
-                length,
-                path,
-                next,
-            } => {
-                if !padding {
-                    return V1Token::Entry {
-                        padding,
-                        length,
-                        path,
-                        next,
-                    };
-                }
-                i = next;
-            }
+    while let Some(entry) = read_v1(list, i)? {
+        let padding = entry.padding;
+        if !padding {
+            return Ok(Some(entry));
         }
+        i = entry.next;
     }
-    V1Token::Ended
+    Ok(None)
 }
 
 // Whether the names of the list at `at` are the first `depth` elements of the path, which stand in `tree`.
@@ -372,8 +326,7 @@ fn same_path(tree: &[u8], path: &[usize], depth: usize, bytes: &[u8], at: usize)
         return false;
     }
     let mut i = at + 1;
-    let mut k = 0;
-    while k < depth {
+    for k in 0..depth {
         let x = path[2 * k];
         let y = path[2 * k + 1];
         if y < x {
@@ -383,62 +336,55 @@ fn same_path(tree: &[u8], path: &[usize], depth: usize, bytes: &[u8], at: usize)
             return false; // never: it stands in `tree`
         }
         match read_string(bytes, i) {
-            ByteString::NoString => {
+            None => {
                 return false;
             }
-            ByteString::Content { start, end } => {
+            Some(Part { start, end }) => {
                 if !same(&bytes[start..end], &tree[x..y]) {
                     return false;
                 }
                 i = end;
             }
         }
-        k += 1;
     }
     ends_here(bytes, i)
 }
 
-// Where the list goes on behind the file that was met; or it is another.
-#[derive(Clone, Copy)]
-pub enum Met {
-    Behind(usize),
-    Other,
-}
-
-// Whether the next file of `list` is the one with this path and length.
-fn meet(tree: &[u8], path: &[usize], depth: usize, list: &[u8], cursor: usize, length: usize) -> Met
+// Where `list` goes on behind its next file, if that is the one with this path and length.
+fn meet(
+    tree: &[u8],
+    path: &[usize],
+    depth: usize,
+    list: &[u8],
+    cursor: usize,
+    length: usize,
+) -> Option<usize>
     requires { (L.length path.now ≡ path_size) × (depth ≤ max_elements) }
     ensures { (us : Items) → Ahead list.now cursor us → (p : List Element) → Kept (L.length tree.now) path.now depth p → (f : File) → f.size ≡ length → f.path ≡ elements tree.now p → MetIs list.now (after_next (next_file us) f) result }
 {
-    match next_file(list, cursor) {
-        V1Token::BadEntry => Met::Other,
-        V1Token::Ended => Met::Other,
-        V1Token::Entry {
-            padding: _,
-            length: n,
-            path: at,
-            next,
-        } => {
-            if n != length {
-                return Met::Other;
-            }
-            if same_path(tree, path, depth, list, at) {
-                return Met::Behind(next);
-            }
-            Met::Other
-        }
+    let left = next_file(list, cursor).ok()?;
+    let file = left?;
+    let n = file.length;
+    let at = file.path;
+    let next = file.next;
+    if n != length {
+        return None;
     }
+    if same_path(tree, path, depth, list, at) {
+        return Some(next);
+    }
+    None
 }
 
-// The position past a directory, and where the list goes on behind its files; or one of them is another than the list has.
+// The position past a directory, and where the list goes on behind its files.
 #[derive(Clone, Copy)]
-pub enum Compared {
-    Past { next: usize, cursor: usize },
-    Differ,
+pub struct Compared {
+    pub next: usize,
+    pub cursor: usize,
 }
 
 // The files of a directory, from its first entry on, with so many levels left below it, beside those of `list` from `cursor` on. `path` has the
-// elements of the path to the directory.
+// elements of the path to the directory. None if one of them is another than the list has.
 fn compare_directory(
     tree: &[u8],
     at: usize,
@@ -446,27 +392,24 @@ fn compare_directory(
     list: &[u8],
     cursor: usize,
     path: &mut [usize],
-) -> Compared
+) -> Option<Compared>
     requires { (levels ≤ max_elements) × (L.length path.old ≡ path_size) }
     ensures { Compares tree.now list.now at levels cursor path.old path.new result }
 {
     if levels == 0 {
-        return Compared::Differ;
+        return None;
     }
     let below = levels - 1;
     let depth = ELEMENTS - levels;
     let mut behind = cursor;
     let mut i = at;
     while i < tree.len() {
-        match read_token(tree, i) {
-            Token::BadToken => {
-                return Compared::Differ;
-            }
+        match read_token(tree, i)? {
             Token::Closed => {
-                return Compared::Past {
+                return Some(Compared {
                     next: i + 1,
                     cursor: behind,
-                };
+                });
             }
             Token::Leaf {
                 start,
@@ -476,59 +419,32 @@ fn compare_directory(
                 next,
             } => {
                 set_element(path, depth, start, end);
-                match meet(tree, path, depth + 1, list, behind, length) {
-                    Met::Other => {
-                        return Compared::Differ;
-                    }
-                    Met::Behind(k) => {
-                        behind = k;
-                        i = next;
-                    }
-                }
+                behind = meet(tree, path, depth + 1, list, behind, length)?;
+                i = next;
             }
             Token::Opened { start, end } => {
                 set_element(path, depth, start, end);
-                match compare_directory(tree, end + 1, below, list, behind, path) {
-                    Compared::Past {
-                        next,
-                        cursor: inside,
-                    } => {
-                        behind = inside;
-                        i = next;
-                    }
-                    Compared::Differ => {
-                        return Compared::Differ;
-                    }
-                }
+                let inside = compare_directory(tree, end + 1, below, list, behind, path)?;
+                behind = inside.cursor;
+                i = inside.next;
             }
         }
     }
-    Compared::Differ
+    None
 }
 
-// How many bytes all entries of the v1 half have; or it does not fit the tree.
-#[derive(Clone, Copy)]
-pub enum HalfRead {
-    Bytes(usize),
-    Misfit,
-}
-
-// `list` beside `tree`, which has so many files.
-pub fn several(tree: &[u8], list: &[u8], plen: usize, files: usize) -> HalfRead
+// How many bytes all entries of `list` have, beside `tree`, which has so many files; none if it does not fit the tree.
+pub fn several(tree: &[u8], list: &[u8], plen: usize, files: usize) -> Option<usize>
     requires { (0 < plen) × (L.length list.now ≤ largest_torrent) }
     ensures { (vs : Items) → Encodes list.now vs → (fs : List Listed) (k : ℕ) → files_in tree.now ≡ Tree.files fs k → files ≡ L.length fs → result ≡ several_of plen vs (read_files tree.now fs) }
 {
-    match tally(list, plen) {
-        Tallied::Amiss => HalfRead::Misfit,
-        Tallied::Sums { files: n, total } => {
-            if n != files {
-                return HalfRead::Misfit;
-            }
-            let mut path = [0usize; PATH];
-            match compare_directory(tree, 1, ELEMENTS, list, 1, &mut path) {
-                Compared::Differ => HalfRead::Misfit,
-                Compared::Past { next: _, cursor: _ } => HalfRead::Bytes(total),
-            }
-        }
+    let sums = tally(list, plen)?;
+    let n = sums.files;
+    let total = sums.total;
+    if n != files {
+        return None;
     }
+    let mut path = [0usize; PATH];
+    compare_directory(tree, 1, ELEMENTS, list, 1, &mut path)?;
+    Some(total)
 }

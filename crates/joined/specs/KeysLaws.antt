@@ -1,12 +1,12 @@
 -- The keys by positions are the keys of the value: the numbers 22 to 24 are those that the value has, and where it has none of them
 -- the positions are those of the values.
 -- Assumes nothing.
+use Rattle.bencode.specs.Scalar.{part}
 use Rattle.std.proofs.Math.Path.{◌≡◌, refl}
-use Rattle.std.proofs.Common.{sym, ap, ◌∙◌, arith}
-use Rattle.std.specs.Prelude.{Bool, cond, ℕ, suc, ◌-◌, ◌<◌, drop, eqb}
+use Rattle.std.proofs.Common.{sym, ap, ◌∙◌, arith, append-nil, Option, Some, None}
+use Rattle.std.specs.Prelude.{Bool, cond, ℕ, suc, ◌-◌, ◌<◌, drop, eqb, List, [], ◌++◌}
 use Rattle.std.proofs.Math.Bool.{true, false, and-false}
 use Rattle.std.proofs.lemmas.Bool.{false≢true}
-use mathlib.Core.List.{List, [], ◌++◌, append-nil}
 use Rattle.meaning.specs.Keys.{key_info, key_file_tree, key_piece_length, key_meta_version, key_piece_layers}
 use Rattle.limits.specs.Limits.{max_levels}
 use Rattle.octets.specs.Octets.{cut}
@@ -17,12 +17,8 @@ use Rattle.bencode.specs.Parts.{is_dictionary, find_key, Lookup, absent, present
 use Rattle.bencode.specs.DepthLaws.{more_levels}
 use Rattle.bencode.specs.PartsLaws.{part_front, find_is, integer_of, dictionary_is, is_dictionary_value, lookup_valid}
 use Rattle.bencode.specs.declared.scalar.Integer.{Integer}
-use Rattle.bencode.specs.declared.scalar.Integer.TheVariants.{Whole, NoInteger}
-use Rattle.bencode.specs.declared.parts.Found.{Found}
-use Rattle.bencode.specs.declared.parts.Found.TheVariants.{Part, Missing}
-use Rattle.metainfo.specs.Metainfo.{part_of, bytes_in, dictionary_in, integer_in, find_dictionary, find_integer, no_keys, right_keys, with_version, with_piece_length, info_keys, with_layers, with_tree, dictionary_keys, with_info, keys_of}
-use Rattle.metainfo.specs.declared.Part.{Part as PartOf}
-use Rattle.metainfo.specs.declared.Keys.{Keys}
+use Rattle.metainfo.specs.Metainfo.{Keys, part_of, bytes_in, dictionary_in, integer_in, find_dictionary, find_integer, no_keys, right_keys, with_version, with_piece_length, info_keys, with_layers, with_tree, dictionary_keys, with_info, keys_of}
+use Rattle.bencode.specs.declared.part.Part.{Part}
 use Rattle.meaning.specs.Torrent.{has_dictionary, has_integer, entries_of, is_number, number_of, info_of, tree_of, has_keys, plen_of, layers_of}
 use Rattle.joined.specs.FileLaws.{integer_there}
 
@@ -48,9 +44,9 @@ pub record KeysAt (s : List ℕ) (torrent : Entries) (k : Keys) : Type 0 where
 -- ---- a value of its type
 
 -- a dictionary that is found is the one that the key has
-abbrev DictionaryIs : List ℕ → Found → Lookup → Type 0
-DictionaryIs s Missing x = has_dictionary x ≡ false
-DictionaryIs s (Part a b) x = (x ≡ present (dictionary (entries_of x))) × (cut s a (b - a) ≡ encode (dictionary (entries_of x)))
+abbrev DictionaryIs : List ℕ → Option Part → Lookup → Type 0
+DictionaryIs s None x = has_dictionary x ≡ false
+DictionaryIs s (Some w) x = (x ≡ present (dictionary (entries_of x))) × (cut s w.start (w.end - w.start) ≡ encode (dictionary (entries_of x)))
 
 -- a dictionary is its entries
 is_dictionary_lem : (v : Value) → is_dictionary_value v ≡ true → v ≡ dictionary (entries_of (present v))
@@ -67,20 +63,20 @@ no_dictionary (list vs) e = refl
 no_dictionary (dictionary es) e = e
 
 -- what is found for a key, if it is a dictionary
-dictionary_of : (s : List ℕ) (w : Found) (x : Lookup) → FoundIs s w x → DictionaryIs s (dictionary_in s w) x
-dictionary_of s Missing absent f = refl
-dictionary_of s Missing (present v) f = absurd f
-dictionary_of s (Part a b) absent f = absurd f
-dictionary_of s (Part a b) (present v) f = by_kind (is_dictionary (drop a s)) (ap is_dictionary (part_front s a b v f) ∙ dictionary_is v (drop (b - a) (drop a s)))
+dictionary_of : (s : List ℕ) (w : Option Part) (x : Lookup) → FoundIs s w x → DictionaryIs s (dictionary_in s w) x
+dictionary_of s None absent f = refl
+dictionary_of s None (present v) f = absurd f
+dictionary_of s (Some w) absent f = absurd f
+dictionary_of s (Some w) (present v) f = by_kind (is_dictionary (drop w.start s)) (ap is_dictionary (part_front s w.start w.end v f) ∙ dictionary_is v (drop (w.end - w.start) (drop w.start s)))
   where
-    by_kind : (t : Bool) → t ≡ is_dictionary_value v → DictionaryIs s (cond t (Part a b) Missing) (present v)
+    by_kind : (t : Bool) → t ≡ is_dictionary_value v → DictionaryIs s (cond t (Some w) None) (present v)
     by_kind true e = let d = is_dictionary_lem v (sym e) in (ap present d, f ∙ ap encode d)
     by_kind false e = no_dictionary v (sym e)
 
 -- an integer that is found is the one that the key has
-abbrev IntegerIs : Integer → Lookup → Type 0
-IntegerIs NoInteger x = has_integer x ≡ false
-IntegerIs (Whole minus n next) x = x ≡ present (integer minus n)
+abbrev IntegerIs : Option Integer → Lookup → Type 0
+IntegerIs None x = has_integer x ≡ false
+IntegerIs (Some w) x = x ≡ present (integer w.minus w.size)
 
 -- an integer is read as its value, and no other value is one
 integer_value : (a : ℕ) (v : Value) → IntegerIs (integer_of a v) (present v)
@@ -90,11 +86,11 @@ integer_value a (list vs) = refl
 integer_value a (dictionary es) = refl
 
 -- what is found for a key, if it is an integer
-integer_of_lem : (s : List ℕ) (l : ℕ) (w : Found) (x : Lookup) → ((v : Value) → x ≡ present v → Valid v l) → FoundIs s w x → IntegerIs (integer_in s w) x
-integer_of_lem s l Missing absent h f = refl
-integer_of_lem s l Missing (present v) h f = absurd f
-integer_of_lem s l (Part a b) absent h f = absurd f
-integer_of_lem s l (Part a b) (present v) h f = rw (integer_there s a b l v f (h v refl)) (integer_value a v)
+integer_of_lem : (s : List ℕ) (l : ℕ) (w : Option Part) (x : Lookup) → ((v : Value) → x ≡ present v → Valid v l) → FoundIs s w x → IntegerIs (integer_in s w) x
+integer_of_lem s l None absent h f = refl
+integer_of_lem s l None (present v) h f = absurd f
+integer_of_lem s l (Some w) absent h f = absurd f
+integer_of_lem s l (Some w) (present v) h f = rw (integer_there s w.start w.end l v f (h v refl)) (integer_value w.start v)
 
 -- ---- a key of a dictionary
 
@@ -138,14 +134,14 @@ module _ (s : List ℕ) (torrent : Entries) (start : s ≡ encode (dictionary to
   whole = start ∙ sym (append-nil (encode (dictionary torrent)))
 
   -- what is known where all five are found
-  record Five (info tree layers : PartOf) (below : Bool) (plen : ℕ) (minus : Bool) (version : ℕ) : Type 0 where
-    pub the_info : DictionaryIs s (Part info.start info.end) (lookup key_info torrent)
-    pub the_tree : DictionaryIs s (Part tree.start tree.end) (lookup key_file_tree (info_of torrent))
-    pub the_layers : DictionaryIs s (Part layers.start layers.end) (lookup key_piece_layers torrent)
+  record Five (info tree layers : Part) (below : Bool) (plen : ℕ) (minus : Bool) (version : ℕ) : Type 0 where
+    pub the_info : DictionaryIs s (part info.start info.end) (lookup key_info torrent)
+    pub the_tree : DictionaryIs s (part tree.start tree.end) (lookup key_file_tree (info_of torrent))
+    pub the_layers : DictionaryIs s (part layers.start layers.end) (lookup key_piece_layers torrent)
     pub the_plen : lookup key_piece_length (info_of torrent) ≡ present (integer below plen)
     pub the_version : lookup key_meta_version (info_of torrent) ≡ present (integer minus version)
 
-  module _ (info : PartOf) (i : DictionaryIs s (Part info.start info.end) (lookup key_info torrent)) where
+  module _ (info : Part) (i : DictionaryIs s (part info.start info.end) (lookup key_info torrent)) where
     -- what stands behind `info`
     abbrev behind : List ℕ
     behind = drop (info.end - info.start) (drop info.start s)
@@ -158,7 +154,7 @@ module _ (s : List ℕ) (torrent : Entries) (start : s ≡ encode (dictionary to
     info_valid : Valid (dictionary (info_of torrent)) (max_levels - 1)
     info_valid = has_valid s key_info 0 torrent [] (max_levels - 1) whole valid (omega arith) (dictionary (info_of torrent)) i.0
 
-  module _ (info tree layers : PartOf) (below : Bool) (plen : ℕ) (minus : Bool) (version : ℕ) (f : Five info tree layers below plen minus version) where
+  module _ (info tree layers : Part) (below : Bool) (plen : ℕ) (minus : Bool) (version : ℕ) (f : Five info tree layers below plen minus version) where
     -- no key is missing
     all_there : has_keys torrent ≡ true
     unfolding has_keys
@@ -227,7 +223,7 @@ module _ (s : List ℕ) (torrent : Entries) (start : s ≡ encode (dictionary to
 
   -- ---- step by step
 
-  module _ (info : PartOf) (i : DictionaryIs s (Part info.start info.end) (lookup key_info torrent)) where
+  module _ (info : Part) (i : DictionaryIs s (part info.start info.end) (lookup key_info torrent)) where
     -- a dictionary of `info`
     info_dictionary : (key : List ℕ) → DictionaryIs s (find_dictionary s info.start key) (lookup key (info_of torrent))
     info_dictionary key = dictionary_found s key info.start (info_of torrent) (behind info i) (max_levels - 2) (info_there info i) (info_valid info i) (omega arith)
@@ -236,49 +232,49 @@ module _ (s : List ℕ) (torrent : Entries) (start : s ≡ encode (dictionary to
     info_integer : (key : List ℕ) → IntegerIs (find_integer s info.start key) (lookup key (info_of torrent))
     info_integer key = integer_found s key info.start (info_of torrent) (behind info i) (max_levels - 2) (info_there info i) (info_valid info i) (omega arith)
 
-    module _ (tree : PartOf) (t : DictionaryIs s (Part tree.start tree.end) (lookup key_file_tree (info_of torrent))) where
-      module _ (layers : PartOf) (l : DictionaryIs s (Part layers.start layers.end) (lookup key_piece_layers torrent)) where
+    module _ (tree : Part) (t : DictionaryIs s (part tree.start tree.end) (lookup key_file_tree (info_of torrent))) where
+      module _ (layers : Part) (l : DictionaryIs s (part layers.start layers.end) (lookup key_piece_layers torrent)) where
         -- by `meta version`
-        version_are : (below : Bool) (plen : ℕ) → lookup key_piece_length (info_of torrent) ≡ present (integer below plen) → (w : Integer) → IntegerIs w (lookup key_meta_version (info_of torrent))
+        version_are : (below : Bool) (plen : ℕ) → lookup key_piece_length (info_of torrent) ≡ present (integer below plen) → (w : Option Integer) → IntegerIs w (lookup key_meta_version (info_of torrent))
             → KeysAre s torrent (with_version info tree layers below plen w)
-        version_are below plen p NoInteger q = missing lacks
+        version_are below plen p None q = missing lacks
           where
             lacks : has_keys torrent ≡ false
             lacks = unfold has_keys in rw (q, and-false) refl
-        version_are below plen p (Whole minus version next) q =
-            values_are info tree layers below plen minus version (record { the_info = i; the_tree = t; the_layers = l; the_plen = p; the_version = q })
+        version_are below plen p (Some w) q =
+            values_are info tree layers below plen w.minus w.size (record { the_info = i; the_tree = t; the_layers = l; the_plen = p; the_version = q })
 
         -- by `piece length`
-        piece_are : (w : Integer) → IntegerIs w (lookup key_piece_length (info_of torrent)) → KeysAre s torrent (with_piece_length s info tree layers w)
-        piece_are NoInteger q = missing lacks
+        piece_are : (w : Option Integer) → IntegerIs w (lookup key_piece_length (info_of torrent)) → KeysAre s torrent (with_piece_length s info tree layers w)
+        piece_are None q = missing lacks
           where
             lacks : has_keys torrent ≡ false
             lacks = unfold has_keys in rw (q, and-false) refl
-        piece_are (Whole below plen next) q = version_are below plen q (find_integer s info.start key_meta_version) (info_integer key_meta_version)
+        piece_are (Some w) q = version_are w.minus w.size q (find_integer s info.start key_meta_version) (info_integer key_meta_version)
 
       -- by `piece layers`
-      layers_are : (w : Found) → DictionaryIs s w (lookup key_piece_layers torrent) → KeysAre s torrent (with_layers s info tree w)
-      layers_are Missing q = missing lacks
+      layers_are : (w : Option Part) → DictionaryIs s w (lookup key_piece_layers torrent) → KeysAre s torrent (with_layers s info tree w)
+      layers_are None q = missing lacks
         where
           lacks : has_keys torrent ≡ false
           lacks = unfold has_keys in rw (q, and-false) refl
-      layers_are (Part a b) q = unfold info_keys in piece_are (part_of a b) q (find_integer s info.start key_piece_length) (info_integer key_piece_length)
+      layers_are (Some w) q = unfold info_keys in piece_are (part_of w.start w.end) q (find_integer s info.start key_piece_length) (info_integer key_piece_length)
 
     -- by `file tree`
-    tree_are : (w : Found) → DictionaryIs s w (lookup key_file_tree (info_of torrent)) → KeysAre s torrent (with_tree s info w)
-    tree_are Missing q = missing lacks
+    tree_are : (w : Option Part) → DictionaryIs s w (lookup key_file_tree (info_of torrent)) → KeysAre s torrent (with_tree s info w)
+    tree_are None q = missing lacks
       where
         lacks : has_keys torrent ≡ false
         lacks = unfold has_keys in rw (q, and-false) refl
-    tree_are (Part a b) q = layers_are (part_of a b) q (find_dictionary s 0 key_piece_layers) (dictionary_found s key_piece_layers 0 torrent [] (max_levels - 1) whole valid (omega arith))
+    tree_are (Some w) q = layers_are (part_of w.start w.end) q (find_dictionary s 0 key_piece_layers) (dictionary_found s key_piece_layers 0 torrent [] (max_levels - 1) whole valid (omega arith))
 
   -- by `info`
-  info_are : (w : Found) → DictionaryIs s w (lookup key_info torrent) → KeysAre s torrent (with_info s w)
-  info_are Missing q = missing lacks
+  info_are : (w : Option Part) → DictionaryIs s w (lookup key_info torrent) → KeysAre s torrent (with_info s w)
+  info_are None q = missing lacks
     where
       lacks : has_keys torrent ≡ false
       lacks = unfold has_keys in rw q refl
-  info_are (Part a b) q = unfold dictionary_keys in tree_are (part_of a b) q (find_dictionary s a key_file_tree) (info_dictionary (part_of a b) q key_file_tree)
+  info_are (Some w) q = unfold dictionary_keys in tree_are (part_of w.start w.end) q (find_dictionary s w.start key_file_tree) (info_dictionary (part_of w.start w.end) q key_file_tree)
 
   -- so are the keys of the torrent
   keys_are : KeysAre s torrent (keys_of s)

@@ -1,15 +1,12 @@
 -- 01, "The torrent", 27 and 28 of the files one by one: the layer found by a root's position is the layer that the value has for the
 -- root, and the lowest number of all files is 27, 28 or 0 as the value says.
 -- Assumes nothing.
-use Rattle.std.specs.Prelude.{◌≡◌, Bool, not, ◌&&◌, ◌||◌, ℕ, ◌+◌, ◌-◌, drop}
+use Rattle.std.specs.Prelude.{◌≡◌, Bool, not, ◌&&◌, ◌||◌, ℕ, ◌+◌, ◌-◌, drop, List, [], ◌∷◌, ◌++◌, Option, Some, None}
 use Rattle.std.proofs.Math.Path.{refl, ap}
-use Rattle.std.proofs.Common.{sym, ◌∙◌}
+use Rattle.std.proofs.Common.{sym, ◌∙◌, append-nil, arith, eqb-true, ne_eqb}
 use Rattle.std.proofs.Math.Bool.{true, false, cond}
-use mathlib.Core.List.{List, [], ◌∷◌, ◌++◌, append-nil}
-use native.Mathlib.Omega.{arith}
 use Rattle.std.proofs.Math.ListN.{length, length-append}
 use Rattle.std.proofs.Math.Dec.{eqb}
-use borrow.Author.Tests.{eqb-true, ne_eqb}
 use Rattle.limits.specs.Limits.{max_levels}
 use Rattle.octets.specs.Octets.{cut, zero_hash}
 use Rattle.numbers.specs.Numbers.{layers_amiss, layer_differs}
@@ -20,8 +17,7 @@ use Rattle.bencode.specs.Scalar.{read_string}
 use Rattle.bencode.specs.Parts.{find_key, Lookup, absent, present, lookup, FoundIs}
 use Rattle.bencode.specs.CompleteLaws.{content_start}
 use Rattle.bencode.specs.PartsLaws.{part_front, string_is, content_is, find_is}
-use Rattle.bencode.specs.declared.parts.Found.{Found}
-use Rattle.bencode.specs.declared.parts.Found.TheVariants.{Part, Missing}
+use Rattle.bencode.specs.declared.part.Part.{Part}
 use Rattle.filetree.specs.Tree.{Listed}
 use Rattle.layers.specs.Layers.{string_in, layer_at, of_layer, number_by_layer, lower, worst}
 use Rattle.meaning.specs.Torrent.{File, layer_fits, layers_fit, layer_bytes, gives_root, layers_give_roots}
@@ -57,11 +53,11 @@ module _ (l : List ℕ) (plen : ℕ) (v : File) where
   judged_value a (dictionary es) rest e = rw (e, string_is (dictionary es) a rest) refl
 
   -- what is found is judged as what the dictionary has
-  judged_found : (x : Found) (y : Lookup) → FoundIs l x y → of_layer l plen v.size v.root (string_in l x) ≡ layer_judged plen v y
-  judged_found Missing absent p = refl
-  judged_found Missing (present u) p = absurd p
-  judged_found (Part a b) absent p = absurd p
-  judged_found (Part a b) (present u) p = judged_value a u (drop (b - a) (drop a l)) (part_front l a b u p)
+  judged_found : (x : Option Part) (y : Lookup) → FoundIs l x y → of_layer l plen v.size v.root (string_in l x) ≡ layer_judged plen v y
+  judged_found None absent p = refl
+  judged_found None (present u) p = absurd p
+  judged_found (Some w) absent p = absurd p
+  judged_found (Some w) (present u) p = judged_value w.start u (drop (w.end - w.start) (drop w.start l)) (part_front l w.start w.end u p)
 
 -- ---- one file, and all
 

@@ -1,6 +1,7 @@
 -- What stands next in an open directory, by the value of the entry there.
 -- Assumes nothing.
-use Rattle.std.specs.Prelude.{◌≡◌, false, cond, List, [], ◌∷◌, ◌++◌, ℕ, ◌+◌, length, drop}
+use Rattle.filetree.specs.File.{right_file}
+use Rattle.std.specs.Prelude.{◌≡◌, false, cond, List, [], ◌∷◌, ◌++◌, ℕ, ◌+◌, length, drop, None}
 use Rattle.std.proofs.Math.Path.{refl}
 use Rattle.std.proofs.Common.{ap, ◌∙◌, append_assoc, arith, length-append, eq-eqb, ne_eqb}
 use Rattle.limits.specs.Limits.{max_levels}
@@ -11,9 +12,7 @@ use Rattle.bencode.specs.Parts.{is_dictionary}
 use Rattle.bencode.specs.CompleteLaws.{BeginsWithDigit, decimal_first, content_start, string_read, dictionary_bytes, complete}
 use Rattle.bencode.specs.PartsLaws.{value_start, dictionary_is, content_is, after_part}
 use Rattle.filetree.specs.File.{file_at}
-use Rattle.filetree.specs.Token.{ends_here, past_file, file_token, first_key, node_token, token_at}
-use Rattle.filetree.specs.declared.file.File.TheVariants.{Right, WrongFile}
-use Rattle.filetree.specs.declared.token.Token.TheVariants.{Opened, Closed, Leaf, BadToken}
+use Rattle.filetree.specs.Token.{ends_here, past_file, file_token, first_key, node_token, token_at, opened_token, closed_token, leaf_token}
 use Rattle.meaning.specs.Torrent.{element_right, no_more}
 
 -- a dictionary's entries stand behind its first byte
@@ -39,7 +38,7 @@ ends_is no_entries r = unfold encode ends_here in refl
 ends_is (entry k v es) r = ap ends_here (entry_bytes k v es r) ∙ string_goes_on k (encode v ++ (encode_entries es ++ r))
 
 -- there the directory is closed
-pub token_end : (s : List ℕ) (at : ℕ) (r : List ℕ) → drop at s ≡ encode_entries no_entries ++ r → token_at s at ≡ Closed
+pub token_end : (s : List ℕ) (at : ℕ) (r : List ℕ) → drop at s ≡ encode_entries no_entries ++ r → token_at s at ≡ closed_token
 unfolding token_at
 token_end s at r e = rw (e, ends_is no_entries r) refl
 
@@ -49,28 +48,28 @@ content_size at k = let lc = length-append (decimal (length k)) (colon ∷ k) in
 
 -- at a key the token is by whether the key is a path element
 pub key_token : (s : List ℕ) (at : ℕ) (k q : List ℕ) → drop at s ≡ encode_string k ++ q
-    → token_at s at ≡ cond (element_right k) (node_token s (content_start at k) (value_start at k)) BadToken
+    → token_at s at ≡ cond (element_right k) (node_token s (content_start at k) (value_start at k)) None
 unfolding token_at
 key_token s at k q e = rw e (rw (string_goes_on k q, string_read at k q, content_is s k q at e) refl)
 
 module _ (s : List ℕ) (a b : ℕ) (q : List ℕ) where
   -- a node that is no dictionary is wrong
-  pub node_other : is_dictionary (drop b s) ≡ false → node_token s a b ≡ BadToken
+  pub node_other : is_dictionary (drop b s) ≡ false → node_token s a b ≡ None
   unfolding node_token
   node_other e = rw e refl
 
   -- a node that is a dictionary, by its first key
   node_dictionary : (es : Entries) → drop b s ≡ encode (dictionary es) ++ q
-      → node_token s a b ≡ cond (no_more es) BadToken (first_key s a b (read_string (b + 1) (encode_entries es ++ q)))
+      → node_token s a b ≡ cond (no_more es) None (first_key s a b (read_string (b + 1) (encode_entries es ++ q)))
   unfolding node_token
   node_dictionary es e = rw (entries_there s b es q e) (rw (ap is_dictionary e ∙ dictionary_is (dictionary es) q, ends_is es q) refl)
 
   -- an empty directory is wrong
-  pub node_empty : drop b s ≡ encode (dictionary no_entries) ++ q → node_token s a b ≡ BadToken
+  pub node_empty : drop b s ≡ encode (dictionary no_entries) ++ q → node_token s a b ≡ None
   node_empty e = node_dictionary no_entries e
 
   -- a first key that is not empty opens a directory
-  pub node_opened : (c : ℕ) (cs : List ℕ) (w : Value) (es : Entries) → drop b s ≡ encode (dictionary (entry (c ∷ cs) w es)) ++ q → node_token s a b ≡ Opened a b
+  pub node_opened : (c : ℕ) (cs : List ℕ) (w : Value) (es : Entries) → drop b s ≡ encode (dictionary (entry (c ∷ cs) w es)) ++ q → node_token s a b ≡ opened_token a b
   node_opened c cs w es e =
       let k = c ∷ cs in
       let o = content_size (b + 1) k in
@@ -85,13 +84,13 @@ module _ (s : List ℕ) (a b : ℕ) (q : List ℕ) where
       ∙ rw (entry_bytes [] w es q) (rw (string_read (b + 1) [] (encode w ++ (encode_entries es ++ q)), eq-eqb (content_start (b + 1) []) (value_start (b + 1) []) (omega arith)) refl)
 
 -- a file that is wrong
-pub file_wrong : (s : List ℕ) (a b at : ℕ) → file_at s at ≡ WrongFile → file_token s a b at ≡ BadToken
+pub file_wrong : (s : List ℕ) (a b at : ℕ) → file_at s at ≡ None → file_token s a b at ≡ None
 unfolding file_token
 file_wrong s a b at e = rw e refl
 
 -- a file that is right, alone in its node or beside other keys
-pub file_right_lem : (s : List ℕ) (a b at n r : ℕ) (w : Value) (es : Entries) (q : List ℕ) → file_at s at ≡ Right n r → drop at s ≡ encode w ++ (encode_entries es ++ q) → Valid w max_levels
-    → file_token s a b at ≡ cond (no_more es) (Leaf a b n r (at + length (encode w) + 1)) BadToken
+pub file_right_lem : (s : List ℕ) (a b at n r : ℕ) (w : Value) (es : Entries) (q : List ℕ) → file_at s at ≡ right_file n r → drop at s ≡ encode w ++ (encode_entries es ++ q) → Valid w max_levels
+    → file_token s a b at ≡ cond (no_more es) (leaf_token a b n r (at + length (encode w) + 1)) None
 unfolding file_token past_file
 file_right_lem s a b at n r w es q e d h =
     let walked : walk_value max_levels at (drop at s) ≡ _ = ap (walk_value max_levels at) d ∙ complete w max_levels at (encode_entries es ++ q) h in

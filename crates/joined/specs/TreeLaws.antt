@@ -1,12 +1,13 @@
 -- The files by positions are the files of the value: the walk of the tree's bytes t is right exactly if the value is, and then has its
 -- files in the same order. By induction on the value, with the levels left beside it.
 -- Assumes nothing.
-use Rattle.std.specs.Prelude.{◌≡◌, Bool, true, false, ◌&&◌, ℕ, zero, suc, ◌+◌, ◌-◌, ◌≤◌, drop}
+use Rattle.filetree.specs.File.{right_file}
+use Rattle.std.specs.Prelude.{◌≡◌, Bool, true, false, ◌&&◌, ℕ, zero, suc, ◌+◌, ◌-◌, ◌≤◌, drop, List, [], ◌∷◌, ◌++◌, Option, Some, None}
 use Rattle.std.proofs.Math.Path.{refl}
-use Rattle.std.proofs.Common.{sym, ap, ap₂, ◌∙◌, arith}
+use Rattle.std.proofs.Common.{sym, ap, ap₂, ◌∙◌, arith, append-nil}
 use Rattle.std.proofs.Math.Bool.{and-false}
 use Rattle.std.proofs.lemmas.Bool.{false≢true}
-use mathlib.Core.List.{List, [], ◌∷◌, ◌++◌, append-nil, map-append}
+use Rattle.std.proofs.lemmas.List.{map-append}
 use Rattle.std.proofs.Math.ListN.{length, length-append}
 use Rattle.octets.specs.Octets.{cut}
 use Rattle.limits.specs.Limits.{max_levels}
@@ -16,11 +17,9 @@ use Rattle.bencode.specs.CompleteLaws.{content_start, string_some, dictionary_by
 use Rattle.bencode.specs.DepthLaws.{more_levels}
 use Rattle.bencode.specs.PartsLaws.{value_start, content_is, dictionary_is, is_dictionary_value, entries_length, entries_some, after_part}
 use Rattle.filetree.specs.File.{file_at}
-use Rattle.filetree.specs.Token.{ends_here, node_token, file_token, token_at}
+use Rattle.filetree.specs.Token.{ends_here, node_token, file_token, token_at, leaf_token}
 use Rattle.filetree.specs.Tree.{max_elements, Element, Listed, Files, wrong, files, down, listed_as, after, onward, on_token, files_from, files_below, files_in, right, listed}
 use Rattle.filetree.specs.declared.file.File.{File as FileFound}
-use Rattle.filetree.specs.declared.file.File.TheVariants.{Right, WrongFile}
-use Rattle.filetree.specs.declared.token.Token.TheVariants.{Leaf, BadToken}
 use Rattle.meaning.specs.Torrent.{File, entries_of, file_right, element_right, no_more, node_right, branch_right, nodes_right, tree_right, files_of_node, files_of_entries, file_value}
 use Rattle.filetree.specs.Reading.{element, elements, read_file, read_files}
 use Rattle.joined.specs.FileLaws.{FileAgrees, file_is}
@@ -144,7 +143,7 @@ module _ (t : List ℕ) (sub : ℕ → List Element → Files) (go : ℕ → Fil
   abbrev inside : List (List ℕ)
   inside = elements t path ++ (k ∷ [])
 
-  bad : token_at t at ≡ BadToken → here ≡ wrong
+  bad : token_at t at ≡ None → here ≡ wrong
   bad e = ap (on_token sub go at path) e
 
   -- the key has the bytes between its positions
@@ -176,24 +175,24 @@ module _ (t : List ℕ) (sub : ℕ → List Element → Files) (go : ℕ → Fil
       past : y + length (encode w) + 1 ≡ b + length (encode (dictionary (entry [] w no_entries)))
       past = unfold encode in omega (arith, empty_key, length-append (encode_string []) (encode w ++ encode_entries no_entries), length-append (encode w) (encode_entries no_entries))
 
-      by_more : (us : Entries) → es ≡ us → (size r : ℕ) → file_at t y ≡ Right size r → FileAgrees t (file_right w) (entries_of (present w)) (Right size r)
+      by_more : (us : Entries) → es ≡ us → (size r : ℕ) → file_at t y ≡ right_file size r → FileAgrees t (file_right w) (entries_of (present w)) (right_file size r)
           → NodeGives (no_more us && true) t here go (b + length (encode (dictionary (entry [] w us)))) (file_value inside (entries_of (present w)) ∷ [])
       by_more (entry x u us) e size r f g = bad (token ∙ file_right_lem t a b y size r w es q f there valid ∙ rw e refl)
       by_more no_entries e size r f g =
-          let leaf : token_at t at ≡ Leaf a b size r (y + length (encode w) + 1) = token ∙ file_right_lem t a b y size r w es q f there valid ∙ rw e refl in (
+          let leaf : token_at t at ≡ leaf_token a b size r (y + length (encode w) + 1) = token ∙ file_right_lem t a b y size r w es q f there valid ∙ rw e refl in (
             listed_as size r (down path a b) ∷ [],
             ap (on_token sub go at path) leaf ∙ ap (λ (z : ℕ). after (listed_as size r (down path a b) ∷ []) (go z)) past,
             ap (λ (z : File). z ∷ []) (is_read size r g),
             unfold AllFit in (fits_down t path a b k fit n.key key_size, tt),
           )
         where
-          is_read : (size r : ℕ) → FileAgrees t (file_right w) (entries_of (present w)) (Right size r) → read_file t (listed_as size r (down path a b)) ≡ file_value inside (entries_of (present w))
+          is_read : (size r : ℕ) → FileAgrees t (file_right w) (entries_of (present w)) (right_file size r) → read_file t (listed_as size r (down path a b)) ≡ file_value inside (entries_of (present w))
           is_read size r g = unfold read_file in rw (g.2, g.1, elements_down t path a b k n.key) refl
 
-      by_file : (f : FileFound) → file_at t y ≡ f → FileAgrees t (file_right w) (entries_of (present w)) f
+      by_file : (f : Option FileFound) → file_at t y ≡ f → FileAgrees t (file_right w) (entries_of (present w)) f
           → NodeGives (no_more es && file_right w) t here go (b + length (encode (dictionary (entry [] w es)))) (file_value inside (entries_of (present w)) ∷ [])
-      by_file WrongFile f g = rw (g, and-false (no_more es)) (bad (token ∙ file_wrong t a b y f))
-      by_file (Right size r) f g = rw g.0 (by_more es refl size r f g)
+      by_file None f g = rw (g, and-false (no_more es)) (bad (token ∙ file_wrong t a b y f))
+      by_file (Some x) f g = rw g.0 (by_more es refl x.length x.root f g)
 
   -- a node that is a directory, by what is inside
   open_gives : (o : Bool) (c : ℕ) (cs : List ℕ) (w : Value) (es : Entries) (vs : List File) → NodeAt t at k (dictionary (entry (c ∷ cs) w es)) q
@@ -262,7 +261,7 @@ none_gives t l at (suc steps) r j path e h m g fit =
 key_wrong : (sub : ℕ → List Element → Files) (go : ℕ → Files) (t : List ℕ) (at : ℕ) (path : List Element) (k q : List ℕ) → drop at t ≡ encode_string k ++ q → element_right k ≡ false
     → on_token sub go at path (token_at t at) ≡ wrong
 key_wrong sub go t at path k q e r =
-    let token : token_at t at ≡ BadToken = key_token t at k q e ∙ rw r refl in
+    let token : token_at t at ≡ None = key_token t at k q e ∙ rw r refl in
     ap (on_token sub go at path) token
 
 first_wrong : (t : List ℕ) (l at steps : ℕ) (path : List Element) (k q : List ℕ) → drop at t ≡ encode_string k ++ q → element_right k ≡ false → files_from (files_below l t) steps t at path ≡ wrong

@@ -1,13 +1,11 @@
 -- Demand 3: a held hash stays held, and the number that a reply gets stays the same at every later offer.
 -- Assumes nothing.
-use Rattle.std.specs.Prelude.{◌≡◌, Bool, false, cond, ℕ, zero, ◌^◌, ◌<◌, length, eqb}
+use Rattle.std.specs.Prelude.{◌≡◌, Bool, false, cond, ℕ, zero, ◌^◌, ◌<◌, length, eqb, List}
 use Rattle.std.proofs.Math.Path.{refl, ap}
-use Rattle.std.proofs.Common.{ap₂, sym, ◌∙◌, arith}
+use Rattle.std.proofs.Common.{ap₂, sym, ◌∙◌, arith, eq-eqb, ne_eqb}
 use Rattle.std.proofs.lemmas.Bool.{false≢true}
 use Rattle.std.proofs.Math.Bool.{true}
-use mathlib.Core.List.{List}
 use Rattle.std.proofs.Math.Decide.{ℕ_discrete}
-use borrow.Author.Tests.{eq-eqb, ne_eqb}
 use Rattle.octets.specs.Octets.{same}
 use Rattle.octets.specs.OctetsLaws.{same_true, same_eq}
 use Rattle.numbers.specs.Numbers.{wrong_size, wrong_padding, no_anchor, refused}

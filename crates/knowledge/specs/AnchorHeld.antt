@@ -2,8 +2,7 @@
 -- Assumes nothing.
 use Rattle.std.specs.Prelude.{◌≡◌, refl, Bool, true, false, List, ℕ, ◌+◌, ◌-◌, ◌*◌, ◌/◌, ◌^◌, ◌≤◌, ◌<◌}
 use Rattle.std.proofs.Math.Path.{ap, sym}
-use Rattle.std.proofs.Common.{◌∙◌, arith, div-lt_iff_lt-mul, pow-add, pow_pos}
-use borrow.Author.Tests.{le-leb, lt-ltb}
+use Rattle.std.proofs.Common.{◌∙◌, arith, div-lt_iff_lt-mul, pow-add, pow_pos, le-leb, lt-ltb}
 use Rattle.sha256.specs.declared.Hashed.{Hashed}
 use Rattle.tree.specs.Geometry.{height, node_number}
 use Rattle.cells.specs.Cells.{held_at}

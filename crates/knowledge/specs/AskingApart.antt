@@ -1,10 +1,9 @@
 -- Bytes behind the store decide nothing of the next request and of the piece to fetch; marks nothing of the request; hashes nothing of the piece.
 -- Assumes nothing.
-use Rattle.std.specs.Prelude.{◌≡◌, Bool, ◌&&◌, List, length, get_or, eqb}
+use Rattle.std.specs.Prelude.{◌≡◌, Bool, ◌&&◌, List, length, get_or, eqb, ℕ, zero, suc, ◌+◌, ◌-◌, ◌^◌, ◌≤◌, ◌<◌}
 use Rattle.std.proofs.Math.Path.{refl, ap}
 use Rattle.std.proofs.Common.{ap₂, sym, ◌∙◌, inl, inr, arith, ne_eqb, lt-ltb, le-ltb, ltb-true}
 use Rattle.std.proofs.Math.Bool.{true, false}
-use Prim.Native.Nat.{ℕ, zero, suc, ◌+◌, ◌-◌, ◌^◌, ◌≤◌, ◌<◌}
 use Rattle.std.proofs.Math.Dec.{ltb}
 use Rattle.std.proofs.Math.Pow.{pow_mono}
 use Rattle.octets.specs.Octets.{cut}

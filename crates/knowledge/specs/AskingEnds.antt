@@ -1,11 +1,9 @@
 -- The asking ends: each reply that is taken makes its whole run held; held stays held, so the runs asked for later are other runs; and a
 -- layer has ceil(wanted / length) runs with a wanted position.
 -- Assumes nothing.
-use Rattle.std.specs.Prelude.{◌≡◌, refl, Bool, true, false, ℕ, suc, ◌+◌, ◌-◌, ◌*◌, ◌%◌, ◌≤◌, ◌<◌, min, ltb}
+use Rattle.std.specs.Prelude.{◌≡◌, refl, Bool, true, false, ℕ, suc, ◌+◌, ◌-◌, ◌*◌, ◌%◌, ◌≤◌, ◌<◌, min, ltb, List}
 use Rattle.std.proofs.Math.Path.{ap}
-use Rattle.std.proofs.Common.{sym, ◌∙◌, inl, inr, div-add-mod', mod-lt, lt-ltb, le-ltb}
-use mathlib.Core.List.{List}
-use native.Mathlib.Omega.{arith}
+use Rattle.std.proofs.Common.{sym, ◌∙◌, inl, inr, div-add-mod', mod-lt, lt-ltb, le-ltb, arith}
 use Rattle.tree.specs.Geometry.{ceil_div, node_number}
 use Rattle.tree.proofs.GeometryLaws.{below_ceil}
 use Rattle.cells.specs.Cells.{held_at}

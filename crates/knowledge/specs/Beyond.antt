@@ -1,16 +1,12 @@
 -- Two memories with the same facts and cells get the same numbers, counts and hashes: bytes past the store's size decide nothing, and nor
 -- do marks.
 -- Assumes nothing.
-use Rattle.std.specs.Prelude.{◌≡◌, Bool, length, get_or}
+use Rattle.std.specs.Prelude.{◌≡◌, Bool, length, get_or, List, [], ◌∷◌, ℕ, zero, suc, ◌+◌, ◌/◌, ◌-◌, ◌*◌, ◌^◌, ◌≤◌, ◌<◌}
 use Rattle.std.proofs.Math.Path.{refl, ap, ap₂}
-use Rattle.std.proofs.Common.{◌∙◌}
+use Rattle.std.proofs.Common.{◌∙◌, arith, eq-eqb, ne_eqb, eqb-true, ltb-true}
 use Rattle.std.proofs.Math.Bool.{true, false, cond}
-use mathlib.Core.List.{List, [], ◌∷◌}
-use Prim.Native.Nat.{ℕ, zero, suc, ◌+◌, ◌/◌, ◌-◌, ◌*◌, ◌^◌, ◌≤◌, ◌<◌}
-use native.Mathlib.Omega.{arith}
 use Rattle.std.proofs.Math.Decide.{ℕ_discrete}
 use Rattle.std.proofs.Math.Dec.{eqb, ltb}
-use borrow.Author.Tests.{eq-eqb, ne_eqb, eqb-true, ltb-true}
 use Rattle.octets.specs.Octets.{same}
 use Rattle.numbers.specs.Numbers.{rule_broken, wrong_size, wrong_padding, not_held, judged}
 use Rattle.sha256.specs.Sha256.{sha256}

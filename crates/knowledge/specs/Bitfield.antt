@@ -2,8 +2,7 @@
 -- Assumes nothing.
 use Rattle.std.specs.Prelude.{◌≡◌, Bool, true, false, List, ◌↔◌, ℕ, zero, suc, ◌+◌, ◌-◌, ◌*◌, ◌/◌, ◌%◌, ◌≤◌, ◌<◌, min}
 use Rattle.std.proofs.Math.Path.{refl, ap}
-use Rattle.std.proofs.Common.{sym, ◌∙◌, mul_assoc, le-ltb, lt-ltb}
-use native.Mathlib.Omega.{arith}
+use Rattle.std.proofs.Common.{sym, ◌∙◌, mul_assoc, le-ltb, lt-ltb, arith}
 use Rattle.tree.specs.Geometry.{block_length, piece_count}
 use Rattle.tree.proofs.GeometryLaws.{below_ceil, piece_length_form}
 use Rattle.cells.specs.Entries.{one_if}

@@ -1,6 +1,6 @@
 -- What the cases worked by hand rest on (01; the table is promises/specs/Worked).
 -- Assumes nothing.
-use Rattle.std.specs.Prelude.{◌≡◌, refl, Bool, true, false, ◌&&◌, List, ℕ, ◌+◌, ◌-◌, ◌%◌, ◌≤◌, ◌<◌, length, eqb, leb}
+use Rattle.std.specs.Prelude.{◌≡◌, refl, Bool, true, false, ◌&&◌, List, ℕ, ◌+◌, ◌%◌, ◌≤◌, ◌<◌, length, eqb, leb}
 use Rattle.std.proofs.Common.{ap, ap₂, ◌∙◌, inl, inr, arith, lit<, lit≤, le-ltb}
 use Rattle.octets.specs.Octets.{same}
 use Rattle.numbers.specs.Numbers.{rule_broken}

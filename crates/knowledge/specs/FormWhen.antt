@@ -1,9 +1,7 @@
 -- Bytes have the saved form exactly if they are the bytes of a value in order: opening, positions rising, marks rising, end.
 -- Assumes nothing.
-use Rattle.std.specs.Prelude.{◌≡◌, true, ◌↔◌, length}
+use Rattle.std.specs.Prelude.{◌≡◌, true, ◌↔◌, length, List, [], ◌∷◌, ◌++◌, ℕ, zero, suc, ◌+◌, ◌-◌, ◌*◌, ◌^◌, ◌≤◌, ◌<◌}
 use Rattle.std.proofs.Math.Path.{refl, ap, sym}
-use mathlib.Core.List.{List, [], ◌∷◌, ◌++◌}
-use Prim.Native.Nat.{ℕ, zero, suc, ◌+◌, ◌-◌, ◌*◌, ◌^◌, ◌≤◌, ◌<◌}
 use Rattle.std.proofs.Common.{arith}
 use Rattle.octets.specs.Octets.{Octets}
 use Rattle.octets.specs.OctetsLaws.{cut_octets}

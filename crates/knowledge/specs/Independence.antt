@@ -10,7 +10,7 @@ use Rattle.sha256.specs.declared.Hashed.{Hashed}
 use Rattle.tree.specs.Geometry.{node_number}
 use Rattle.cells.specs.Cells.{held_at, hash_at}
 use Rattle.asking.specs.declared.next.Request.{Request}
-use Rattle.facts.specs.declared.FactsRead.{FactsRead}
+use Rattle.facts.specs.Facts.{FactsRead}
 use Rattle.facts.specs.FactsLaws.{facts_same}
 use Rattle.store.specs.Store.{usable, file_length, height_of, store_size, in_tree, held_answer, Facts}
 use Rattle.store.specs.StoreLaws.{usable_facts, facts_usable, facts_leaves, tree_number_lem, held_outside, held_not, held_given}

@@ -2,9 +2,8 @@
 -- both halves of a hybrid. "Held" is what kd_held answers; positions are layers and indices.
 -- Assumes nothing.
 use Rattle.std.specs.Prelude.{◌≡◌, refl, true, false, List, ◌++◌, ◌↔◌, ◌⊎◌, ℕ, ◌+◌, ◌-◌, ◌*◌, ◌^◌, ◌≤◌, ◌<◌, length, replicate}
-use Rattle.std.proofs.Common.{sym, ◌∙◌, subst, inl, inr, arith, pow_pos}
+use Rattle.std.proofs.Common.{sym, ◌∙◌, subst, inl, inr, arith, pow_pos, eq-eqb, ne_eqb, eqb-true, lt-ltb, le-ltb, ltb-true, ltb-false}
 use Rattle.std.proofs.lemmas.Bool.{false≢true}
-use borrow.Author.Tests.{eq-eqb, ne_eqb, eqb-true, lt-ltb, le-ltb, ltb-true, ltb-false}
 use Rattle.octets.specs.OctetsLaws.{same_true, same_eq, same_false, same_ne}
 use Rattle.numbers.specs.Numbers.{rule_broken, wrong_size, no_anchor, differs, conflict, unusable}
 use Rattle.numbers.specs.Chain.{last, decided, exactly, exactly_of, none, passes_of}

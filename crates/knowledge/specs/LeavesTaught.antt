@@ -2,12 +2,10 @@
 -- taught has nothing to ask in layer 0.
 -- Assumes nothing.
 use Rattle.std.specs.Prelude.{◌≡◌, refl, Bool, true, false, List, [], ◌↔◌, ◌⊎◌, ℕ, ◌+◌, ◌*◌, ◌/◌, ◌%◌, ◌^◌, ◌≤◌, ◌<◌, length, get_or}
-use Rattle.std.proofs.Common.{ap, ap₂, ◌∙◌, subst, inl, inr, div-add-mod', mod-lt, mul-one, pow_mono}
+use Rattle.std.proofs.Common.{ap, ap₂, ◌∙◌, subst, inl, inr, div-add-mod', mod-lt, mul-one, pow_mono, arith, ne_eqb, ltb-false}
 use Rattle.std.proofs.Math.Path.{sym}
-use native.Mathlib.Omega.{arith}
 use Rattle.std.proofs.Math.Decide.{ℕ_discrete, dec_lt}
 use Rattle.std.proofs.Math.Nat.{div-eq_of_lt}
-use borrow.Author.Tests.{ne_eqb, ltb-false}
 use Rattle.std.proofs.Math.Pow.{pow_pos}
 use Rattle.octets.specs.Octets.{cut}
 use Rattle.octets.specs.OctetsLaws.{cut_cut, cut_pasted_same, get_or_pasted_after, pasted_length}

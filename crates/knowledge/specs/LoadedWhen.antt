@@ -1,7 +1,7 @@
 -- Each number of a load and of a repair exactly when, and what is held afterwards, as kd_held answers. 32 stands twice among the tests: for bytes
 -- without a whole opening record, and for the rest.
 -- Assumes nothing.
-use Rattle.std.specs.Prelude.{◌≡◌, refl, Bool, true, false, cond, List, ◌↔◌, ◌⊎◌, ℕ, ◌-◌, ◌≤◌, ◌<◌, length, get_or, drop, eqb, leb}
+use Rattle.std.specs.Prelude.{◌≡◌, refl, Bool, true, false, cond, List, ◌↔◌, ◌⊎◌, ℕ, ◌≤◌, ◌<◌, length, get_or, drop, eqb, leb}
 use Rattle.std.proofs.Common.{sym, ◌∙◌, inl, inr, arith, eq-eqb, eqb-true, le-leb, leb-true, leb-false}
 use Rattle.std.proofs.Math.Bool.{and-eq-true_iff}
 use Rattle.std.proofs.lemmas.Bool.{false≢true, lt-leb}

@@ -2,9 +2,8 @@
 -- Assumes nothing.
 use Rattle.std.specs.Prelude.{◌≡◌, refl, Bool, true, false, List, ◌↔◌, ℕ, ◌+◌, ◌-◌, ◌*◌, ◌/◌, ◌^◌, ◌≤◌, ◌<◌, min, eqb, ltb}
 use Rattle.std.proofs.Math.Path.{ap}
-use Rattle.std.proofs.Common.{ap₂, sym, ◌∙◌, inl, inr, arith, eq-eqb, eqb-true, ltb-true, lt-ltb}
-use native.Mathlib.Nat.{div-add-mod', mod-lt, mul-mod_left, mul-div_cancel, div-lt_iff_lt-mul}
-use lib.Pow.{pow_pos}
+use Rattle.std.proofs.Common.{ap₂, sym, ◌∙◌, inl, inr, arith, eq-eqb, eqb-true, ltb-true, lt-ltb, div-add-mod', mod-lt, mul-div_cancel, div-lt_iff_lt-mul, pow_pos}
+use Rattle.std.proofs.Math.Nat.{mul-mod_left}
 use Rattle.limits.specs.Limits.{longest_run}
 use Rattle.numbers.specs.Numbers.{no_anchor}
 use Rattle.tree.specs.Geometry.{node_number, covering, Padding}

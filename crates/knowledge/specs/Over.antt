@@ -1,11 +1,9 @@
 -- Positions by layer and index: hashes at some positions, and the hashes of two neighbours above them. What a subtree settles is
 -- this over its leaves.
 -- Assumes nothing.
-use Rattle.std.specs.Prelude.{◌≡◌, refl, List, ◌⊎◌, ◌↔◌}
+use Rattle.std.specs.Prelude.{◌≡◌, refl, List, ◌⊎◌, ◌↔◌, ℕ, zero, suc, ◌+◌, ◌-◌, ◌*◌, ◌/◌, ◌^◌, ◌≤◌, ◌<◌}
 use Rattle.std.proofs.Math.Path.{ap, subst}
-use Rattle.std.proofs.Common.{ap₂, sym, ◌∙◌, inl, inr, mul_assoc, add-mul, one-mul, mul-le-mul_right, pow-add, pow_pos}
-use Prim.Native.Nat.{ℕ, zero, suc, ◌+◌, ◌-◌, ◌*◌, ◌/◌, ◌^◌, ◌≤◌, ◌<◌}
-use native.Mathlib.Omega.{arith}
+use Rattle.std.proofs.Common.{ap₂, sym, ◌∙◌, inl, inr, mul_assoc, add-mul, one-mul, mul-le-mul_right, pow-add, pow_pos, arith}
 use Rattle.std.proofs.Math.Nat.{pow-succ', pow-zero}
 use Rattle.std.proofs.Math.Decide.{ℕ_discrete}
 use Rattle.sha256.specs.Sha256.{pair_hash}

@@ -1,10 +1,8 @@
 -- Which hashes of a store the earlier tree's root is worked out of: the peaks, and no others.
 -- Assumes nothing.
-use Rattle.std.specs.Prelude.{◌≡◌, List, ◌↔◌}
+use Rattle.std.specs.Prelude.{◌≡◌, List, ◌↔◌, ℕ, zero, suc, ◌+◌, ◌-◌, ◌*◌, ◌/◌, ◌^◌, ◌≤◌, ◌<◌}
 use Rattle.std.proofs.Math.Path.{refl, ap}
-use Rattle.std.proofs.Common.{ap₂, sym, ◌∙◌, div-lt_iff_lt-mul, pow-add}
-use Prim.Native.Nat.{ℕ, zero, suc, ◌+◌, ◌-◌, ◌*◌, ◌/◌, ◌^◌, ◌≤◌, ◌<◌}
-use native.Mathlib.Omega.{arith}
+use Rattle.std.proofs.Common.{ap₂, sym, ◌∙◌, div-lt_iff_lt-mul, pow-add, arith}
 use Rattle.std.proofs.Math.Decide.{dec_lt, dec_le}
 use Rattle.std.proofs.Math.Nat.{mul_assoc, mul-le-mul_right, pow-succ', add-mul, one-mul}
 use Rattle.std.proofs.Math.Pow.{pow_pos, pow-lt}

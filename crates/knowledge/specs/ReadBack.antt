@@ -2,8 +2,7 @@
 -- Assumes nothing.
 use Rattle.std.specs.Prelude.{◌≡◌, true, List, ℕ, suc, ◌+◌, ◌-◌, ◌*◌, ◌/◌, ◌%◌, ◌^◌, ◌≤◌, ◌<◌, length}
 use Rattle.std.proofs.Math.Path.{refl, ap, ap₂, sym, subst}
-use Rattle.std.proofs.Common.{◌∙◌, div-add-mod', pow-suc, shr_lt, le-leb, lt-ltb}
-use native.Mathlib.Omega.{arith}
+use Rattle.std.proofs.Common.{◌∙◌, div-add-mod', pow-suc, shr_lt, le-leb, lt-ltb, arith}
 use Rattle.octets.specs.Octets.{cut}
 use Rattle.octets.specs.OctetsLaws.{cut_cut}
 use Rattle.tree.specs.Geometry.{height, node_number}

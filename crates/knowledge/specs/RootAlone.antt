@@ -2,11 +2,10 @@
 -- the root alone is held.
 -- Assumes nothing.
 use Rattle.std.specs.Prelude.{◌≡◌, refl, true, ◌&&◌, List, ◌↔◌, ℕ, ◌+◌, ◌-◌, ◌*◌, ◌^◌, ◌≤◌, ◌<◌, length, eqb, leb}
-use Rattle.std.proofs.Common.{ap, sym, ◌∙◌, subst, arith, pow_pos}
+use Rattle.std.proofs.Common.{ap, sym, ◌∙◌, subst, arith, pow_pos, ne_eqb, le-leb, leb-true, leb-false}
 use Rattle.std.proofs.Math.Bool.{and-eq-true_iff}
-use Rattle.std.proofs.lemmas.Bool.{false≢true}
+use Rattle.std.proofs.lemmas.Bool.{false≢true, lt-leb}
 use Rattle.std.proofs.Math.Decide.{ℕ_discrete}
-use borrow.Author.Tests.{ne_eqb, le-leb, leb-true, leb-false, lt-leb}
 use Rattle.numbers.specs.Numbers.{done, refused, unusable, facts_out_of_range}
 use Rattle.numbers.specs.Chain.{exactly_of}
 use Rattle.limits.specs.Limits.{longest_file}

@@ -1,12 +1,10 @@
 -- Demand 2, from the root to the block: what a store that only this build has written holds, opened with a file's own length and
 -- pieces root, is the file's; so is a block that it answers 0; and the file's own blocks and pieces are answered 0. Each unless a pair is shown.
 -- Assumes nothing.
-use Rattle.std.specs.Prelude.{◌≡◌, refl, Bool, true, false, ◌⊎◌, ℕ, zero, suc, ◌+◌, ◌-◌, ◌*◌, ◌^◌, ◌≤◌, ◌<◌, min, length}
+use Rattle.std.specs.Prelude.{◌≡◌, refl, Bool, true, false, ◌⊎◌, ℕ, zero, suc, ◌+◌, ◌-◌, ◌*◌, ◌^◌, ◌≤◌, ◌<◌, min, length, List}
 use Rattle.std.proofs.Math.Path.{ap}
-use Rattle.std.proofs.Common.{ap₂, sym, ◌∙◌, subst, inl, inr, ltb-false}
-use mathlib.Core.List.{List}
-use native.Mathlib.Omega.{arith}
-use native.Mathlib.Nat.{pow-succ'}
+use Rattle.std.proofs.Common.{ap₂, sym, ◌∙◌, subst, inl, inr, ltb-false, arith}
+use Rattle.std.proofs.Math.Nat.{pow-succ'}
 use Rattle.octets.specs.Octets.{Octets, cut, same}
 use Rattle.octets.specs.OctetsLaws.{same_true, same_false, cut_octets, cut_short}
 use Rattle.sha256.specs.Sha256.{sha256, pair_hash}

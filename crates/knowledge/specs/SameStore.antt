@@ -9,7 +9,7 @@ use Rattle.numbers.specs.declared.Answer.{Answer}
 use Rattle.sha256.specs.declared.Hashed.{Hashed}
 use Rattle.asking.specs.declared.next.Request.{Request}
 use Rattle.asking.specs.declared.pick.Choice.{Choice}
-use Rattle.facts.specs.declared.FactsRead.{FactsRead}
+use Rattle.facts.specs.Facts.{FactsRead}
 use Rattle.facts.specs.FactsLaws.{facts_same}
 use Rattle.store.specs.Store.{usable, file_length, height_of, positions, store_size, Facts}
 use Rattle.store.specs.StoreLaws.{own_cells, usable_facts, facts_usable, used_same, used_facts, used_answer, byte_same}

@@ -1,13 +1,10 @@
 -- Demand 2: the positions that a message settles, by layer and index, are 2·length − 1 + 2u, distinct, in the tree; the count of a taken
 -- message is those for which kd_held did not answer 0 before. The same for a piece layer.
 -- Assumes nothing.
-use Rattle.std.specs.Prelude.{◌≡◌, Bool, true, false, not, ℕ, ◌+◌, ◌-◌, ◌*◌, ◌^◌, ◌≤◌, ◌<◌, length, eqb}
+use Rattle.std.specs.Prelude.{◌≡◌, Bool, true, false, not, ℕ, ◌+◌, ◌-◌, ◌*◌, ◌^◌, ◌≤◌, ◌<◌, length, eqb, List, [], ◌∷◌}
 use Rattle.std.proofs.Math.Path.{refl, ap, sym}
-use Rattle.std.proofs.Common.{ap₂, ◌∙◌, pow_pos}
-use mathlib.Core.List.{List, [], ◌∷◌}
-use native.Mathlib.Omega.{arith}
+use Rattle.std.proofs.Common.{ap₂, ◌∙◌, pow_pos, arith, eq-eqb, ne_eqb, le-leb, lt-ltb}
 use Rattle.std.proofs.Math.ListN.{length-append}
-use borrow.Author.Tests.{eq-eqb, ne_eqb, le-leb, lt-ltb}
 use Rattle.sha256.specs.declared.Hashed.{Hashed}
 use Rattle.tree.specs.Geometry.{node_number}
 use Rattle.tree.proofs.GeometryLaws.{node_number_distinct, node_number_root, longer_has}

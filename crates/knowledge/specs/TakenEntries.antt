@@ -1,9 +1,8 @@
 -- Demand 2: "then its positions and no others become held", and the count.
 -- Assumes nothing.
-use Rattle.std.specs.Prelude.{◌≡◌, Bool, true, not, List, [], ◌∷◌, ◌⊎◌, ℕ, ◌+◌, ◌-◌, ◌*◌, ◌^◌, ◌≤◌, ◌<◌, length}
+use Rattle.std.specs.Prelude.{◌≡◌, Bool, true, not, List, [], ◌∷◌, ◌⊎◌, ℕ, ◌+◌, ◌*◌, ◌^◌, ◌≤◌, ◌<◌, length}
 use Rattle.std.proofs.Math.Path.{refl, ap}
-use Rattle.std.proofs.Common.{ap₂, ◌∙◌, eq-eqb}
-use native.Mathlib.Omega.{arith}
+use Rattle.std.proofs.Common.{ap₂, ◌∙◌, eq-eqb, arith}
 use Rattle.std.proofs.Math.ListN.{length-append}
 use Rattle.tree.specs.Values.{node}
 use Rattle.cells.specs.Cells.{Room, held_at, hash_at, put}

@@ -2,8 +2,7 @@
 -- Assumes nothing.
 use Rattle.std.specs.Prelude.{◌≡◌, refl, List, [], ◌++◌, ◌⊎◌, ℕ, ◌+◌, ◌-◌, ◌*◌, ◌^◌, ◌≤◌, ◌<◌, min, length, drop}
 use Rattle.std.proofs.Math.Path.{ap, sym}
-use Rattle.std.proofs.Common.{ap₂, ◌∙◌, subst, append_assoc, append-nil, inl, inr, length-append, ext_get_or, eq-eqb, ne_eqb}
-use native.Mathlib.Omega.{arith}
+use Rattle.std.proofs.Common.{ap₂, ◌∙◌, subst, append_assoc, append-nil, inl, inr, length-append, ext_get_or, eq-eqb, ne_eqb, arith}
 use Rattle.std.proofs.Math.Decide.{ℕ_discrete}
 use Rattle.std.proofs.Math.ListN.{take-append-drop}
 use Rattle.octets.specs.Octets.{Octets, cut}

@@ -2,13 +2,9 @@
 -- Assumes nothing.
 use Rattle.numbers.specs.declared.Answer.{Answer}
 use Rattle.sha256.specs.declared.Hashed.{Hashed}
-use Rattle.facts.specs.declared.FactsRead.{FactsRead}
-use Rattle.torrent.specs.declared.read.Torrent.{Torrent}
-use Rattle.torrent.specs.declared.read.FileRead.{FileRead}
-use Rattle.torrent.specs.declared.read.PartRead.{PartRead}
-use Rattle.v1.specs.declared.read.HybridRead.{HybridRead}
-use Rattle.v1.specs.declared.read.V1Piece.{V1Piece}
-use Rattle.v1.specs.declared.read.V1Part.{V1Part}
+use Rattle.facts.specs.Facts.{FactsRead}
+use Rattle.torrent.specs.Torrent.{PartRead, FileRead, Torrent}
+use Rattle.v1.specs.V1.{HybridRead, V1Piece, V1Part}
 use Rattle.kombudeva.specs.declared.CountAnswer.{CountAnswer}
 use Rattle.kombudeva.specs.declared.HashAnswer.{HashAnswer}
 use Rattle.kombudeva.specs.declared.FactsAnswer.{FactsAnswer}

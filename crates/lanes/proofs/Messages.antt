@@ -1,11 +1,7 @@
 -- Messages and pairs as the lanes take them: eight of one length, one after the other in a list.
 -- Assumes nothing.
-use mathlib.Core.Path.{◌≡◌, refl, ap, sym, ◌∙◌}
-use mathlib.Core.List.{List, ◌++◌}
-use Prim.Native.Nat.{ℕ, ◌+◌, ◌-◌, ◌*◌, ◌/◌, ◌%◌, ◌<◌, ◌≤◌}
-use native.Mathlib.Omega.{arith}
-use lib.ListN.{length, take, drop, length-drop}
-use lib.Seq.{take_all, take-add, drop-drop}
+use Rattle.std.specs.Prelude.{◌≡◌, refl, List, ◌++◌, ℕ, ◌+◌, ◌-◌, ◌*◌, ◌/◌, ◌%◌, ◌<◌, ◌≤◌, length, take, drop}
+use Rattle.std.proofs.Common.{ap, sym, ◌∙◌, arith, length-drop, take_all, take-add, drop-drop}
 use Rattle.octets.specs.Octets.{cut}
 use Rattle.octets.specs.OctetsLaws.{cut_length, cut_cut}
 use Rattle.constants.specs.Constants.{K}
@@ -20,17 +16,17 @@ use Rattle.sha256.specs.Sha256.{start, digest, sha256, pair_hash}
 use Rattle.lanes.specs.LanesLaws.{reach}
 
 -- one block more of message j
-pub message_more : (k s : List ℕ) (z u r : State) (n at j : ℕ) → at + 64 ≤ n → at % 64 ≡ 0
-    → u ≡ over_blocks (compress k) (at / 64) z (cut s (j * n) n)
-    → r ≡ compress k u (cut s (at + j * n) 64)
-    → r ≡ over_blocks (compress k) ((at + 64) / 64) z (cut s (j * n) n)
+pub message_more : (k s : List ℕ) (z u r : State) (n i j : ℕ) → 64 * i + 64 ≤ n
+    → u ≡ over_blocks (compress k) i z (cut s (j * n) n)
+    → r ≡ compress k u (cut s (64 * i + j * n) 64)
+    → r ≡ over_blocks (compress k) (i + 1) z (cut s (j * n) n)
 unfolding cut
-message_more k s z u r n at j h d e f =
-    let c : at + j * n ≡ j * n + at = omega arith in
-    let b : cut s (at + j * n) 64 ≡ cut (cut s (j * n) n) at 64 = ap (λ (a : ℕ). cut s a 64) c ∙ sym (cut_cut s (j * n) n at 64 h) in
+message_more k s z u r n i j h e f =
+    let c : 64 * i + j * n ≡ j * n + 64 * i = omega arith in
+    let b : cut s (64 * i + j * n) 64 ≡ cut (cut s (j * n) n) (64 * i) 64 = ap (λ (a : ℕ). cut s a 64) c ∙ sym (cut_cut s (j * n) n (64 * i) 64 h) in
     f ∙ ap (compress k u) b
-    ∙ ap (λ (v : State). compress k v (cut (cut s (j * n) n) at 64)) e
-    ∙ blocks_more (compress k) (cut s (j * n) n) z at d
+    ∙ ap (λ (v : State). compress k v (cut (cut s (j * n) n) (64 * i) 64)) e
+    ∙ blocks_more (compress k) (cut s (j * n) n) z i
 
 -- its whole blocks, and its last bytes with the padding, are the message
 pub message_law : (k s : List ℕ) (z u : State) (n j : ℕ) → 8 * n ≤ length s → j < 8

@@ -49,10 +49,8 @@ fn load_lane(w: &mut [u32; 512], bytes: &[u8], at: usize, j: usize)
     requires { (j < 8) × (at + 64 ≤ length bytes.now) × (length w.old ≡ 512) }
     ensures { (take 16 (lane 64 w.new j) ≡ words 16 (cut bytes.now at 64)) × Beside 64 j w.old w.new }
 {
-    let mut i: usize = 0;
-    while i < 16 {
+    for i in 0..16 {
         w[i * 8 + j] = word(bytes, at + i * 4);
-        i += 1;
     }
 }
 
@@ -61,10 +59,8 @@ fn load(w: &mut [u32; 512], bytes: &[u8], at: usize, stride: usize)
     requires { (at + 7 * stride + 64 ≤ length bytes.now) × (length w.old ≡ 512) }
     ensures { LanesPassed 64 (Loading (λ (x : ℕ). cut bytes.now (at + x * stride) 64)) 8 w.old w.new }
 {
-    let mut j: usize = 0;
-    while j < 8 {
+    for j in 0..8 {
         load_lane(&mut *w, bytes, at + j * stride, j);
-        j += 1;
     }
 }
 
@@ -98,10 +94,8 @@ fn grow_all(w: &mut [u32; 512], i: usize)
     requires { (i ≤ 44) × (length w.old ≡ 512) }
     ensures { LanesPassed 64 (λ (x : ℕ). Growing i (i + 4)) 8 w.old w.new }
 {
-    let mut j: usize = 0;
-    while j < 8 {
+    for j in 0..8 {
         grow4(&mut *w, i, j);
-        j += 1;
     }
 }
 
@@ -111,10 +105,8 @@ fn fill(w: &mut [u32; 512], bytes: &[u8], at: usize, stride: usize)
     ensures { (j : ℕ) → j < 8 → lane 64 w.new j ≡ B.schedule 48 (cut bytes.now (at + j * stride) 64) }
 {
     load(&mut *w, bytes, at, stride);
-    let mut i: usize = 0;
-    while i <= 44 {
-        grow_all(&mut *w, i);
-        i += 4;
+    for i in 0..12 {
+        grow_all(&mut *w, 4 * i);
     }
 }
 
@@ -144,10 +136,8 @@ fn step_all(t: &mut [u32; 64], k: &[u32; 64], w: &[u32; 512], i: usize)
     requires { (i ≤ 60) × (length t.old ≡ 64) }
     ensures { LanesPassed 8 (Rounding (λ (x : ℕ). sums 64 k.now (lane 64 w.now x)) i (i + 4)) 8 t.old t.new }
 {
-    let mut j: usize = 0;
-    while j < 8 {
+    for j in 0..8 {
         step4(&mut *t, k, w, i, j);
-        j += 1;
     }
 }
 
@@ -156,10 +146,8 @@ fn steps(st: [u32; 64], k: &[u32; 64], w: &[u32; 512]) -> [u32; 64]
     ensures { (j : ℕ) → j < 8 → state_in result j ≡ rounds_by (sums 64 k.now (lane 64 w.now j)) 64 (state_in st j) }
 {
     let mut t = st;
-    let mut i: usize = 0;
-    while i <= 60 {
-        step_all(&mut t, k, w, i);
-        i += 4;
+    for i in 0..16 {
+        step_all(&mut t, k, w, 4 * i);
     }
     t
 }
@@ -168,10 +156,8 @@ fn sum_all(st: [u32; 64], t: [u32; 64]) -> [u32; 64]
     ensures { (length result ≡ 64) × ((x : ℕ) → x < 8 → state_in result x ≡ B.plus (state_in st x) (state_in t x)) }
 {
     let mut r = [0u32; 64];
-    let mut i: usize = 0;
-    while i < 64 {
+    for i in 0..64 {
         r[i] = add(st[i], t[i]);
-        i += 1;
     }
     r
 }
@@ -216,10 +202,8 @@ fn known_all(t: &mut [u32; 64], x: &[u32; 64], i: usize)
     requires { (i ≤ 60) × (length t.old ≡ 64) }
     ensures { LanesPassed 8 (Rounding (λ (j : ℕ). x.now) i (i + 4)) 8 t.old t.new }
 {
-    let mut j: usize = 0;
-    while j < 8 {
+    for j in 0..8 {
         known4(&mut *t, x, i, j);
-        j += 1;
     }
 }
 
@@ -228,10 +212,8 @@ pub fn compress_sums8(states: [u32; 64], sums: &[u32; 64]) -> [u32; 64]
     ensures { (length result ≡ 64) × ((j : ℕ) → j < 8 → state_in result j ≡ B.plus (state_in states j) (rounds_by sums.now 64 (state_in states j))) }
 {
     let mut t = states;
-    let mut i: usize = 0;
-    while i <= 60 {
-        known_all(&mut t, sums, i);
-        i += 4;
+    for i in 0..16 {
+        known_all(&mut t, sums, 4 * i);
     }
     sum_all(states, t)
 }

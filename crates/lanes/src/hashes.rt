@@ -10,6 +10,7 @@ ghost use Rattle.lanes.specs.Hashes.{Filled, eighth_hash, parent_of};
 
 use crate::block::{compress_sums8, compress8, lane_of, put_lane};
 use octets::{hash_at, put_hash};
+use sha256::RoundWords;
 
 // The start words in every lane.
 fn start8() -> [u32; 64]
@@ -17,10 +18,8 @@ fn start8() -> [u32; 64]
 {
     let z = sha256::start();
     let mut t = [0u32; 64];
-    let mut j: usize = 0;
-    while j < 8 {
+    for j in 0..8 {
         put_lane(&mut t, j, z);
-        j += 1;
     }
     t
 }
@@ -31,11 +30,9 @@ fn whole_blocks8(st: [u32; 64], k: &[u32; 64], bytes: &[u8], n: usize) -> [u32; 
     ensures { (length result ≡ 64) × ((j : ℕ) → j < 8 → state_in result j ≡ over_blocks (B.compress k.now) (n / 64) (state_in st j) (cut bytes.now (j * n) n)) }
 {
     let mut t = st;
-    let mut at: usize = 0;
-    while 64 <= n - at {
-        let next = compress8(t, k, bytes, at, n);
+    for i in 0..n / 64 {
+        let next = compress8(t, k, bytes, 64 * i, n);
         t = next;
-        at += 64;
     }
     t
 }
@@ -48,7 +45,8 @@ fn message_hash(t: &[u32; 64], k: &[u32; 64], bytes: &[u8], n: usize, j: usize) 
     let to = j * n + n;
     let from = to - n % 64;
     let rest = &bytes[from..to];
-    sha256::digest(sha256::finish(lane_of(t, j), k, rest, n as u64))
+    let state = lane_of(t, j);
+    sha256::digest(padding::finish(&RoundWords { k }, state, rest, n as u64))
 }
 
 // The hashes of eight messages of one length, one after the other in `bytes`.
@@ -60,11 +58,9 @@ pub fn hash8(bytes: &[u8]) -> [u8; 256]
     let n = bytes.len() / 8;
     let t = whole_blocks8(start8(), &k, bytes, n);
     let mut r = [0u8; 256];
-    let mut j: usize = 0;
-    while j < 8 {
+    for j in 0..8 {
         let h = message_hash(&t, &k, bytes, n, j);
         put_hash(&mut r, 32 * j, h);
-        j += 1;
     }
     r
 }
@@ -74,11 +70,9 @@ fn digests(t: [u32; 64]) -> [u8; 256]
     ensures { Filled (λ (j : ℕ). S.digest (state_in t j)) 256 8 result }
 {
     let mut r = [0u8; 256];
-    let mut j: usize = 0;
-    while j < 8 {
+    for j in 0..8 {
         let h = sha256::digest(lane_of(&t, j));
         put_hash(&mut r, 32 * j, h);
-        j += 1;
     }
     r
 }
@@ -99,10 +93,8 @@ pub fn put8(out: &mut [u8], at: usize, hashes: [u8; 256])
     requires { at + 256 ≤ length out.old }
     ensures { out.new ≡ pasted out.old at hashes }
 {
-    let mut x: usize = 0;
-    while x < 8 {
-        let h = hash_at(&hashes, 32 * x);
+    for x in 0..8 {
+        let h: [u8; 32] = hash_at(&hashes, 32 * x);
         put_hash(&mut *out, at + 32 * x, h);
-        x += 1;
     }
 }

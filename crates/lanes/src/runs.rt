@@ -12,6 +12,7 @@ pub fn fill_heap(heap: &mut [u8], leaves: usize)
     ensures { Heap 1 leaves heap.old heap.new }
 {
     let mut q = leaves;
+    // By `while`: q falls by eight while sixteen are left, and the next loop goes on from it.
     while 16 <= q {
         q -= 8;
         let from = 64 * q;
@@ -19,11 +20,10 @@ pub fn fill_heap(heap: &mut [u8], leaves: usize)
         let p = pairs8(&heap[from..to]);
         put8(&mut *heap, 32 * q, p);
     }
-    while 1 < q {
-        q -= 1;
-        let l = hash_at(&*heap, 64 * q);
-        let r = hash_at(&*heap, 64 * q + 32);
+    for n in (1..q).rev() {
+        let l = hash_at(&*heap, 64 * n);
+        let r = hash_at(&*heap, 64 * n + 32);
         let h = sha256::pair(l, r);
-        put_hash(&mut *heap, 32 * q, h);
+        put_hash(&mut *heap, 32 * n, h);
     }
 }

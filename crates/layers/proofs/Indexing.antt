@@ -1,19 +1,12 @@
 -- The loop that gathers the keys of `piece layers`: how far it has come, and each way on from there.
 -- Assumes nothing.
-use mathlib.Core.Path.{◌≡◌, refl, sym, ap, ◌∙◌}
-use mathlib.Core.Bool.{Bool, true, false, cond, ◌&&◌, false≢true, and-false}
-use mathlib.Core.List.{List, [], ◌∷◌, ◌++◌, append_assoc, append-nil}
-use Prim.Native.Nat.{ℕ, zero, suc, ◌+◌, ◌-◌, ◌≤◌, ◌<◌}
-use native.Mathlib.Numerals.{add-one}
-use native.Mathlib.Omega.{arith}
-use lib.ListN.{length, drop, take, set, length-append, length-drop, drop_of_length-le}
-use lib.Seq.{take-suc-set}
-use lib.Dec.{eqb}
-use borrow.Author.Tests.{eq-eqb, ne_eqb, eqb-true}
-use Rattle.bencode.specs.Scalar.{read_number}
+use Rattle.bencode.specs.Parts.{keyed}
+use Rattle.std.specs.Prelude.{◌≡◌, refl, Bool, true, false, cond, ◌&&◌, List, [], ◌∷◌, ◌++◌, ℕ, zero, suc, ◌+◌, ◌-◌, ◌≤◌, ◌<◌, length, drop, take, set, eqb, None}
+use Rattle.std.proofs.Common.{sym, ap, ◌∙◌, append_assoc, append-nil, add-one, arith, length-append, length-drop, take-suc-set, eq-eqb, ne_eqb, eqb-true}
+use Rattle.std.proofs.lemmas.Bool.{false≢true}
+use Rattle.std.proofs.Math.Bool.{and-false}
 use Rattle.bencode.specs.Parts.{read_entry}
 use Rattle.bencode.specs.PartsLaws.{entry_ends}
-use Rattle.bencode.specs.declared.parts.Entry.TheVariants.{Keyed, NoEntry}
 use Rattle.layers.specs.Layers.{keys_on, keys_from, wide_on, wide_from, layer_keys, keys_wide}
 
 pub record IndexAt (s keys : List ℕ) (most i n : ℕ) : Type 0 where
@@ -36,30 +29,27 @@ abbrev pub IndexAnswer : List ℕ → List ℕ → ℕ → Bool → Type 0
 IndexAnswer s keys most r = (r ≡ (keys_wide s && eqb (length (layer_keys s)) most)) × (r ≡ true → take most keys ≡ layer_keys s)
 
 module _ (s keys : List ℕ) (most i n : ℕ) (w : IndexAt s keys most i n) where
-  no_more_lem : (k : ℕ) → read_entry i (drop i s) ≡ NoEntry → (keys_from k s i ≡ []) × (wide_from k s i ≡ true)
+  no_more_lem : (k : ℕ) → read_entry i (drop i s) ≡ None → (keys_from k s i ≡ []) × (wide_from k s i ≡ true)
   unfolding keys_from wide_from
   no_more_lem zero e = (refl, refl)
   no_more_lem (suc k) e = (ap (keys_on (keys_from k s)) e, ap (wide_on (wide_from k s)) e)
 
   -- no entry follows: all keys are gathered
-  pub index_last : read_entry i (drop i s) ≡ NoEntry → (r : Bool) → r ≡ eqb n most → IndexAnswer s keys most r
+  pub index_last : read_entry i (drop i s) ≡ None → (r : Bool) → r ≡ eqb n most → IndexAnswer s keys most r
   index_last e r q =
       let z = no_more_lem w.steps e in
       let all_keys : layer_keys s ≡ w.before = w.others ∙ ap (λ (l : List ℕ). w.before ++ l) z.0 ∙ append-nil w.before in
       let so_many : length (layer_keys s) ≡ n = ap length all_keys ∙ sym w.all in
       (q ∙ rw (w.wide ∙ z.1, so_many) refl, λ t. let m : n ≡ most = eqb-true n most (sym q ∙ t) in rw m at w.kept ∙ sym all_keys)
 
-  pub index_past : length s ≤ i → (r : Bool) → r ≡ eqb n most → IndexAnswer s keys most r
-  index_past h r q = index_last (none h) r q
-    where
-      none : length s ≤ i → read_entry i (drop i s) ≡ NoEntry
-      none h = unfold read_entry read_number in rw (drop_of_length-le s {i = i} h) refl
+  module _ (a b k : ℕ) (e : read_entry i (drop i s) ≡ keyed a b k) where
+    within : i < length s
+    within = let p = entry_ends i s a b k e in let x = p.0 in let y = p.1 in let z = p.2 in let u = p.3 in omega arith
 
-  module _ (h : i < length s) (a b k : ℕ) (e : read_entry i (drop i s) ≡ Keyed a b k) where
     -- the entry, as the definitions see it
     step : (m : ℕ) → length s < i + m → (f : ℕ) × (length s < i + 1 + f) × (keys_from m s i ≡ a ∷ keys_from f s k) × (wide_from m s i ≡ cond (eqb (b - a) 32) (wide_from f s k) false)
     unfolding keys_from wide_from
-    step zero g = absurd (omega arith)
+    step zero g = absurd (omega (arith, within))
     step (suc f) g = (f, omega arith, ap (keys_on (keys_from f s)) e, ap (wide_on (wide_from f s)) e)
 
     -- a key of another size

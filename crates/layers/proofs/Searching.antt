@@ -1,14 +1,9 @@
 -- The keys of `piece layers` by their positions, against the search for one key.
 -- Assumes nothing.
-use mathlib.Core.Path.{◌≡◌, refl, sym, ap, ◌∙◌}
-use mathlib.Core.Bool.{Bool, true, false, cond}
-use mathlib.Core.List.{List}
-use Prim.Native.Nat.{ℕ, zero, suc, ◌+◌, ◌-◌, ◌≤◌, ◌<◌}
-use native.Mathlib.Omega.{arith}
-use lib.ListN.{length, drop, get_or}
-use lib.Seq.{get_or-take, length-take-le}
-use lib.Dec.{eqb}
-use borrow.Author.Tests.{eqb-true}
+use Rattle.bencode.specs.Parts.{keyed}
+use Rattle.bencode.specs.Scalar.{part}
+use Rattle.std.specs.Prelude.{◌≡◌, refl, Bool, true, false, cond, List, ℕ, zero, suc, ◌+◌, ◌-◌, ◌≤◌, ◌<◌, length, drop, get_or, eqb, Option, None, Some}
+use Rattle.std.proofs.Common.{sym, ap, ◌∙◌, arith, get_or-take, length-take-le, eqb-true}
 use Rattle.octets.specs.Octets.{cut, same}
 use Rattle.octets.specs.OctetsLaws.{same_true, same_eq}
 use Rattle.bencode.specs.Scalar.{read_string}
@@ -16,11 +11,8 @@ use Rattle.bencode.specs.Walk.{between}
 use Rattle.bencode.specs.Parts.{read_entry, from_entry, find_in, find_key}
 use Rattle.bencode.specs.EndsLaws.{drop_further}
 use Rattle.bencode.specs.PartsLaws.{entry_ends}
-use Rattle.bencode.specs.declared.scalar.ByteString.TheVariants.{NoString}
-use Rattle.bencode.specs.declared.parts.Found.{Found}
-use Rattle.bencode.specs.declared.parts.Found.TheVariants.{Part, Missing}
+use Rattle.bencode.specs.declared.part.Part.{Part}
 use Rattle.bencode.specs.declared.parts.Entry.{Entry}
-use Rattle.bencode.specs.declared.parts.Entry.TheVariants.{Keyed, NoEntry}
 use Rattle.sorting.specs.SortingLaws.{ascending_one}
 use Rattle.layers.specs.Layers.{string_in, layer_at, keys_on, keys_from, wide_on, wide_from, layer_keys, keys_wide, Indexed}
 use Rattle.layers.specs.KeysLaws.{both, keys_within}
@@ -31,11 +23,11 @@ key_ends b a h e = let o : b - a ≡ 32 = eqb-true (b - a) 32 e in omega arith
 
 module _ (s key : List ℕ) where
   -- what the search does at an entry
-  abbrev on_entry : ℕ → ℕ → Entry → Found
-  on_entry n at x = from_entry x (λ a b k. cond (same key (between at (drop at s) a b)) (Part b k) (find_in key n k (drop (k - at) (drop at s))))
+  abbrev on_entry : ℕ → ℕ → Option Entry → Option Part
+  on_entry n at x = from_entry x (λ a b k. cond (same key (between at (drop at s) a b)) (part b k) (find_in key n k (drop (k - at) (drop at s))))
 
-  entry_step : (n at a b k : ℕ) → read_entry at (drop at s) ≡ Keyed a b k → eqb (b - a) 32 ≡ true
-      → on_entry n at (Keyed a b k) ≡ cond (same key (cut s a 32)) (Part (a + 32) k) (find_in key n k (drop k s))
+  entry_step : (n at a b k : ℕ) → read_entry at (drop at s) ≡ keyed a b k → eqb (b - a) 32 ≡ true
+      → on_entry n at (keyed a b k) ≡ cond (same key (cut s a 32)) (part (a + 32) k) (find_in key n k (drop k s))
   unfolding cut
   entry_step n at a b k q e =
       let p = entry_ends at s a b k q in
@@ -47,48 +39,48 @@ module _ (s key : List ℕ) where
       rw (drop_further s at a (omega arith), drop_further s at k (omega arith), size, o) refl
 
   -- where no key is the one, nothing is found
-  pub find_none : (n at : ℕ) → wide_from n s at ≡ true → ((i : ℕ) → i < length (keys_from n s at) → cut s (get_or (keys_from n s at) i 0) 32 ≡ key → ⊥) → find_in key n at (drop at s) ≡ Missing
+  pub find_none : (n at : ℕ) → wide_from n s at ≡ true → ((i : ℕ) → i < length (keys_from n s at) → cut s (get_or (keys_from n s at) i 0) 32 ≡ key → ⊥) → find_in key n at (drop at s) ≡ None
   unfolding wide_from keys_from find_in
   find_none zero at w h = refl
   find_none (suc n) at w h = by_entry (read_entry at (drop at s)) refl w h (find_none n)
     where
-      by_entry : (x : Entry) → read_entry at (drop at s) ≡ x → wide_on (wide_from n s) x ≡ true
+      by_entry : (x : Option Entry) → read_entry at (drop at s) ≡ x → wide_on (wide_from n s) x ≡ true
           → ((i : ℕ) → i < length (keys_on (keys_from n s) x) → cut s (get_or (keys_on (keys_from n s) x) i 0) 32 ≡ key → ⊥)
-          → ((k : ℕ) → wide_from n s k ≡ true → ((i : ℕ) → i < length (keys_from n s k) → cut s (get_or (keys_from n s k) i 0) 32 ≡ key → ⊥) → find_in key n k (drop k s) ≡ Missing)
-          → on_entry n at x ≡ Missing
-      by_entry NoEntry q w h later = refl
-      by_entry (Keyed a b k) q w h later =
-          let p = both (eqb (b - a) 32) (wide_from n s k) w in
-          entry_step n at a b k q p.0 ∙ by_same (same key (cut s a 32)) refl p.1
+          → ((k : ℕ) → wide_from n s k ≡ true → ((i : ℕ) → i < length (keys_from n s k) → cut s (get_or (keys_from n s k) i 0) 32 ≡ key → ⊥) → find_in key n k (drop k s) ≡ None)
+          → on_entry n at x ≡ None
+      by_entry None q w h later = refl
+      by_entry (Some r) q w h later =
+          let p = both (eqb (r.value - r.start) 32) (wide_from n s r.end) w in
+          entry_step n at r.start r.value r.end q p.0 ∙ by_same (same key (cut s r.start 32)) refl p.1
         where
-          by_same : (t : Bool) → same key (cut s a 32) ≡ t → wide_from n s k ≡ true → cond t (Part (a + 32) k) (find_in key n k (drop k s)) ≡ Missing
-          by_same true g u = absurd (h 0 (omega arith) (sym (same_true key (cut s a 32) g)))
-          by_same false g u = later k u (λ i l e. h (suc i) (omega arith) e)
+          by_same : (t : Bool) → same key (cut s r.start 32) ≡ t → wide_from n s r.end ≡ true → cond t (part (r.start + 32) r.end) (find_in key n r.end (drop r.end s)) ≡ None
+          by_same true g u = absurd (h 0 (omega arith) (sym (same_true key (cut s r.start 32) g)))
+          by_same false g u = later r.end u (λ i l e. h (suc i) (omega arith) e)
 
   -- the first key that is the one is found
   pub find_first : (n at i : ℕ) → wide_from n s at ≡ true → i < length (keys_from n s at) → cut s (get_or (keys_from n s at) i 0) 32 ≡ key
-      → ((j : ℕ) → j < i → cut s (get_or (keys_from n s at) j 0) 32 ≡ key → ⊥) → (e : ℕ) × (find_in key n at (drop at s) ≡ Part (get_or (keys_from n s at) i 0 + 32) e)
+      → ((j : ℕ) → j < i → cut s (get_or (keys_from n s at) j 0) 32 ≡ key → ⊥) → (e : ℕ) × (find_in key n at (drop at s) ≡ part (get_or (keys_from n s at) i 0 + 32) e)
   unfolding wide_from keys_from find_in
   find_first zero at i w l h o = absurd (omega arith)
   find_first (suc n) at i w l h o = by_entry (read_entry at (drop at s)) refl w i l h o (find_first n)
     where
-      by_entry : (x : Entry) → read_entry at (drop at s) ≡ x → wide_on (wide_from n s) x ≡ true → (i : ℕ) → i < length (keys_on (keys_from n s) x)
+      by_entry : (x : Option Entry) → read_entry at (drop at s) ≡ x → wide_on (wide_from n s) x ≡ true → (i : ℕ) → i < length (keys_on (keys_from n s) x)
           → cut s (get_or (keys_on (keys_from n s) x) i 0) 32 ≡ key
           → ((j : ℕ) → j < i → cut s (get_or (keys_on (keys_from n s) x) j 0) 32 ≡ key → ⊥)
           → ((k i : ℕ) → wide_from n s k ≡ true → i < length (keys_from n s k) → cut s (get_or (keys_from n s k) i 0) 32 ≡ key
-          → ((j : ℕ) → j < i → cut s (get_or (keys_from n s k) j 0) 32 ≡ key → ⊥) → (e : ℕ) × (find_in key n k (drop k s) ≡ Part (get_or (keys_from n s k) i 0 + 32) e))
-          → (e : ℕ) × (on_entry n at x ≡ Part (get_or (keys_on (keys_from n s) x) i 0 + 32) e)
-      by_entry NoEntry q w i l h o later = absurd (omega arith)
-      by_entry (Keyed a b k) q w zero l h o later =
-          let p = both (eqb (b - a) 32) (wide_from n s k) w in
-          (k, entry_step n at a b k q p.0 ∙ rw (same_eq key (cut s a 32) (sym h)) refl)
-      by_entry (Keyed a b k) q w (suc i) l h o later =
-          let p = both (eqb (b - a) 32) (wide_from n s k) w in
-          let r = later k i p.1 (omega arith) h (λ j z e. o (suc j) (omega arith) e) in
-          (r.0, entry_step n at a b k q p.0 ∙ by_same (same key (cut s a 32)) refl ∙ r.1)
+          → ((j : ℕ) → j < i → cut s (get_or (keys_from n s k) j 0) 32 ≡ key → ⊥) → (e : ℕ) × (find_in key n k (drop k s) ≡ part (get_or (keys_from n s k) i 0 + 32) e))
+          → (e : ℕ) × (on_entry n at x ≡ part (get_or (keys_on (keys_from n s) x) i 0 + 32) e)
+      by_entry None q w i l h o later = absurd (omega arith)
+      by_entry (Some r) q w zero l h o later =
+          let p = both (eqb (r.value - r.start) 32) (wide_from n s r.end) w in
+          (r.end, entry_step n at r.start r.value r.end q p.0 ∙ rw (same_eq key (cut s r.start 32) (sym h)) refl)
+      by_entry (Some u) q w (suc i) l h o later =
+          let p = both (eqb (u.value - u.start) 32) (wide_from n s u.end) w in
+          let r = later u.end i p.1 (omega arith) h (λ j z e. o (suc j) (omega arith) e) in
+          (r.0, entry_step n at u.start u.value u.end q p.0 ∙ by_same (same key (cut s u.start 32)) refl ∙ r.1)
         where
-          by_same : (t : Bool) → same key (cut s a 32) ≡ t → cond t (Part (a + 32) k) (find_in key n k (drop k s)) ≡ find_in key n k (drop k s)
-          by_same true g = absurd (o 0 (omega arith) (sym (same_true key (cut s a 32) g)))
+          by_same : (t : Bool) → same key (cut s u.start 32) ≡ t → cond t (part (u.start + 32) u.end) (find_in key n u.end (drop u.end s)) ≡ find_in key n u.end (drop u.end s)
+          by_same true g = absurd (o 0 (omega arith) (sym (same_true key (cut s u.start 32) g)))
           by_same false g = refl
 
 -- ---- a layer by the index
@@ -117,7 +109,7 @@ module _ (s keys : List ℕ) (count : ℕ) (x : Indexed s keys count) where
       let f = find_first s key (suc (length (drop 1 s))) 1 r x.wide (rw key_count h) at_key others in
       ap (string_in s) (whole key ∙ f.1) ∙ rw (key_is r h) refl
 
-  pub indexed_none : (key : List ℕ) → ((i : ℕ) → i < count → cut s (get_or keys i 0) 32 ≡ key → ⊥) → layer_at s key ≡ NoString
+  pub indexed_none : (key : List ℕ) → ((i : ℕ) → i < count → cut s (get_or keys i 0) 32 ≡ key → ⊥) → layer_at s key ≡ None
   unfolding layer_at layer_keys keys_wide
   indexed_none key h =
       let none : (i : ℕ) → i < length (layer_keys s) → cut s (get_or (layer_keys s) i 0) 32 ≡ key → ⊥ =

@@ -1,11 +1,10 @@
 -- The keys of `piece layers` by their positions are the keys of the dictionary that stands there: as many, in order, ascending, and
 -- within the bytes.
 -- Assumes nothing.
-use Rattle.std.specs.Prelude.{◌≡◌, refl, Bool, true, false, cond, ℕ, zero, suc, ◌+◌, ◌-◌, ◌≤◌, ◌<◌, take, get_or, eqb}
+use Rattle.std.specs.Prelude.{◌≡◌, refl, Bool, true, false, cond, ℕ, zero, suc, ◌+◌, ◌-◌, ◌≤◌, ◌<◌, take, get_or, eqb, List, [], ◌∷◌, ◌++◌, Option, Some, None}
 use Rattle.std.proofs.Common.{sym, ◌∙◌, arith, add-one, get_or-take, length-take-le, eqb-true}
 use Rattle.std.proofs.Math.Path.{ap}
 use Rattle.std.proofs.lemmas.Bool.{false≢true}
-use mathlib.Core.List.{List, [], ◌∷◌, ◌++◌}
 use Rattle.std.proofs.Math.ListN.{length, drop, length-append}
 use Rattle.octets.specs.Octets.{cut}
 use Rattle.limits.specs.Limits.{max_levels}
@@ -15,7 +14,6 @@ use Rattle.bencode.specs.CompleteLaws.{content_start, string_some, dictionary_by
 use Rattle.bencode.specs.PartsLaws.{value_start, entry_is, entry_none, entry_ends, entries_length, entries_some}
 use Rattle.bencode.specs.DepthLaws.{more_levels, entries_more_levels}
 use Rattle.bencode.specs.declared.parts.Entry.{Entry}
-use Rattle.bencode.specs.declared.parts.Entry.TheVariants.{Keyed, NoEntry}
 use Rattle.sorting.specs.Sorting.{Ascending}
 use Rattle.layers.specs.Layers.{keys_on, keys_from, wide_on, wide_from, layer_keys, keys_wide}
 
@@ -89,14 +87,14 @@ unfolding keys_from wide_from
 from_within s zero at w i g = absurd (omega arith)
 from_within s (suc f) at w i g = by_entry (read_entry at (drop at s)) refl (from_within s f) w i g
   where
-    by_entry : (x : Entry) → read_entry at (drop at s) ≡ x → ((k : ℕ) → wide_from f s k ≡ true → (i : ℕ) → i < length (keys_from f s k) → get_or (keys_from f s k) i 0 + 32 ≤ length s)
+    by_entry : (x : Option Entry) → read_entry at (drop at s) ≡ x → ((k : ℕ) → wide_from f s k ≡ true → (i : ℕ) → i < length (keys_from f s k) → get_or (keys_from f s k) i 0 + 32 ≤ length s)
         → wide_on (wide_from f s) x ≡ true → (i : ℕ) → i < length (keys_on (keys_from f s) x) → get_or (keys_on (keys_from f s) x) i 0 + 32 ≤ length s
-    by_entry NoEntry q ih w i g = absurd (omega arith)
-    by_entry (Keyed a b k) q ih w zero g =
-        let p = entry_ends at s a b k q in
-        let e = eqb-true (b - a) 32 (both (eqb (b - a) 32) (wide_from f s k) w).0 in
+    by_entry None q ih w i g = absurd (omega arith)
+    by_entry (Some r) q ih w zero g =
+        let p = entry_ends at s r.start r.value r.end q in
+        let e = eqb-true (r.value - r.start) 32 (both (eqb (r.value - r.start) 32) (wide_from f s r.end) w).0 in
         omega (arith, p.1, p.2, p.3)
-    by_entry (Keyed a b k) q ih w (suc i) g = ih k (both (eqb (b - a) 32) (wide_from f s k) w).1 i (omega arith)
+    by_entry (Some p) q ih w (suc i) g = ih p.end (both (eqb (p.value - p.start) 32) (wide_from f s p.end) w).1 i (omega arith)
 
 -- ---- of the whole dictionary
 

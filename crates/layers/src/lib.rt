@@ -8,14 +8,18 @@ ghost use Rattle.limits.specs.Limits.{longest_file, largest_torrent};
 ghost use Rattle.octets.specs.Octets.{cut};
 ghost use Rattle.tree.specs.Geometry.{is_piece_length, piece_layer, has_layer};
 ghost use Rattle.tree.specs.Values.{pad_value};
+ghost use Rattle.numbers.specs.Refusals.{code_of};
 ghost use Rattle.filetree.specs.Tree.{files_in, right, listed};
-ghost use Rattle.layers.specs.Layers.{layer_keys, keys_wide, Indexed, Inside, layer_at, of_layer, number_by_layer, lower, worst, Judges};
+ghost use Rattle.numbers.specs.Refusals.{code_of};
+ghost use Rattle.layers.specs.Layers.{layer_keys, keys_wide, Indexed, Inside, layer_at, of_layer, number_by_layer, lower, worst, Judges, number_if};
 
+use bencode::part::Part;
 use bencode::parts::{Entry, read_entry};
-use bencode::scalar::{ByteString, read_string};
+use bencode::scalar::read_string;
 use filetree::count::ELEMENTS;
 use filetree::token::{Token, read_token};
 use heaps::gives_root;
+use numbers::Refused;
 use sorting::halving::search;
 use tree::geometry::{has_layer, piece_count, piece_layer};
 use tree::values::pad_value;
@@ -28,31 +32,24 @@ pub fn index(layers: &[u8], keys: &mut [u32], most: usize) -> bool
     requires { (L.length layers.now ≤ largest_torrent) × (most ≤ L.length keys.old) }
     ensures { (result ≡ (keys_wide layers.now && eqb (L.length (layer_keys layers.now)) most)) × (result ≡ true → take most keys.new ≡ layer_keys layers.now) }
 {
-    let mut i = 1;
+    let mut i = 1; // the next position comes from the bytes
     let mut n = 0;
-    while i < layers.len() {
-        match read_entry(layers, i) {
-            Entry::NoEntry => {
-                return n == most;
-            }
-            Entry::Keyed { start, value, end } => {
-                if value - start != ROOT {
-                    return false;
-                }
-                if n >= most {
-                    return false;
-                }
-                keys[n] = start as u32;
-                n += 1;
-                i = end;
-            }
+    while let Some(Entry { start, value, end }) = read_entry(layers, i) {
+        if value - start != ROOT {
+            return false;
         }
+        if n >= most {
+            return false;
+        }
+        keys[n] = start as u32;
+        n += 1;
+        i = end;
     }
     n == most
 }
 
 // The string that the dictionary `layers` has for a root.
-pub fn find_layer(layers: &[u8], keys: &[u32], count: usize, root: &[u8]) -> ByteString
+pub fn find_layer(layers: &[u8], keys: &[u32], count: usize, root: &[u8]) -> Option<Part>
     requires { Indexed layers.now keys.now count }
     ensures { result ≡ layer_at layers.now root.now }
 {
@@ -61,53 +58,54 @@ pub fn find_layer(layers: &[u8], keys: &[u32], count: usize, root: &[u8]) -> Byt
         let key = keys[i] as usize;
         return read_string(layers, key + ROOT);
     }
-    ByteString::NoString
+    None
 }
 
-// 0, 27 or 28 of a file of `length` bytes by its layer.
+// Whether the layer of a file of `length` bytes is what it needs: else 27 or 28.
 fn of_layer(
     layers: &[u8],
     pad: [u8; 32],
     plen: usize,
     length: usize,
     root: &[u8],
-    layer: ByteString,
-) -> u32
+    layer: Option<Part>,
+) -> Result<(), Refused>
     requires { (is_piece_length plen ≡ true) × (has_layer length plen ≡ true) × (length ≤ longest_file) × (L.length root.now ≡ 32) × Inside (L.length layers.now) layer × (pad ≡ pad_value (piece_layer plen)) }
-    ensures { result ≡ of_layer layers.now plen length root.now layer }
+    ensures { code_of result ≡ of_layer layers.now plen length root.now layer }
 {
     match layer {
-        ByteString::NoString => numbers::LAYERS_AMISS,
-        ByteString::Content { start, end } => {
+        None => Err(Refused::LayersAmiss),
+        Some(Part { start, end }) => {
             let pieces = piece_count(length, plen);
             if end - start == 32 * pieces {
                 if gives_root(&layers[start..end], pad, plen, length, root) {
-                    return 0;
+                    return Ok(());
                 }
-                return numbers::LAYER_DIFFERS;
+                return Err(Refused::LayerDiffers);
             }
-            numbers::LAYERS_AMISS
+            Err(Refused::LayersAmiss)
         }
     }
 }
 
-// What the layers are judged by: how many keys there are, the piece length, the padding value of the piece layer, and the number so far.
+// What the layers are judged by: how many keys there are, the piece length, the padding value of the piece layer; and the worst so far.
 #[derive(Clone, Copy)]
 pub struct Judging {
     pub count: usize,
     pub plen: usize,
     pub pad: [u8; 32],
-    pub number: u32,
+    pub worst: Option<Refused>,
 }
 
-// The position past a directory and the number then; or something in it is wrong.
+// The position past a directory, and the worst of the files up to there.
 #[derive(Clone, Copy)]
-pub enum Numbered {
-    Past { next: usize, number: u32 },
-    WrongTree,
+pub struct Numbered {
+    pub next: usize,
+    pub worst: Option<Refused>,
 }
 
-// 0, 27 or 28 of a file of `length` bytes with its root at `root`: 0 if it is not longer than the piece length.
+// Whether a file of `length` bytes with its root at `root` has the layer that it needs: else 27 or 28. It needs none if it is not longer
+// than the piece length.
 fn number_by_layer(
     tree: &[u8],
     layers: &[u8],
@@ -115,9 +113,9 @@ fn number_by_layer(
     job: Judging,
     length: usize,
     root: usize,
-) -> u32
+) -> Result<(), Refused>
     requires { Indexed layers.now keys.now job.count × (is_piece_length job.plen ≡ true) × (length ≤ longest_file) × ((length ≡ 0 → ⊥) → root + 32 ≤ L.length tree.now) × (job.pad ≡ pad_value (piece_layer job.plen)) }
-    ensures { result ≡ number_by_layer layers.now job.plen length (cut tree.now root 32) }
+    ensures { code_of result ≡ number_by_layer layers.now job.plen length (cut tree.now root 32) }
 {
     let plen = job.plen;
     let pad = job.pad;
@@ -126,23 +124,23 @@ fn number_by_layer(
         let layer = find_layer(layers, keys, job.count, &tree[root..past]);
         return of_layer(layers, pad, plen, length, &tree[root..past], layer);
     }
-    0
+    Ok(())
 }
 
-// The lower of two numbers that are 0, 27 or 28, where 0 is no number.
-fn lower_of(number: u32, n: u32) -> u32
-    ensures { result ≡ lower number n }
+// The lower of 27 and 28, of what was judged so far and of a file.
+fn lower_of(worst: Option<Refused>, here: Result<(), Refused>) -> Option<Refused>
+    ensures { number_if result ≡ lower (number_if worst) (code_of here) }
 {
-    if number == numbers::LAYERS_AMISS {
-        return number;
+    match worst {
+        None => here.err(),
+        Some(why) => match why {
+            Refused::LayersAmiss => worst,
+            _ => here.err().or(worst),
+        },
     }
-    if n == 0 {
-        return number;
-    }
-    n
 }
 
-// 27, 28 or 0, the lowest, of the files of a directory, from its first entry on, with so many levels left below it.
+// The worst of the files of a directory, from its first entry on, with so many levels left below it. None if something in it is wrong.
 fn judge_directory(
     tree: &[u8],
     at: usize,
@@ -150,29 +148,23 @@ fn judge_directory(
     layers: &[u8],
     keys: &[u32],
     job: Judging,
-) -> Numbered
+) -> Option<Numbered>
     requires { Indexed layers.now keys.now job.count × (is_piece_length job.plen ≡ true) × (job.pad ≡ pad_value (piece_layer job.plen)) }
-    ensures { Judges tree.now at levels layers.now job.plen job.number result }
+    ensures { Judges tree.now at levels layers.now job.plen (number_if job.worst) result }
 {
     if levels == 0 {
-        return Numbered::WrongTree;
+        return None;
     }
     let below = levels - 1;
     let count = job.count;
     let plen = job.plen;
     let pad = job.pad;
-    let mut number = job.number;
+    let mut worst = job.worst;
     let mut i = at;
     while i < tree.len() {
-        match read_token(tree, i) {
-            Token::BadToken => {
-                return Numbered::WrongTree;
-            }
+        match read_token(tree, i)? {
             Token::Closed => {
-                return Numbered::Past {
-                    next: i + 1,
-                    number,
-                };
+                return Some(Numbered { next: i + 1, worst });
             }
             Token::Leaf {
                 start: _,
@@ -185,10 +177,10 @@ fn judge_directory(
                     count,
                     plen,
                     pad,
-                    number,
+                    worst,
                 };
-                let n = number_by_layer(tree, layers, keys, here, length, root);
-                number = lower_of(number, n);
+                let judged = number_by_layer(tree, layers, keys, here, length, root);
+                worst = lower_of(worst, judged);
                 i = next;
             }
             Token::Opened { start: _, end } => {
@@ -196,40 +188,40 @@ fn judge_directory(
                     count,
                     plen,
                     pad,
-                    number,
+                    worst,
                 };
-                match judge_directory(tree, end + 1, below, layers, keys, here) {
-                    Numbered::Past {
-                        next,
-                        number: inside,
-                    } => {
-                        number = inside;
-                        i = next;
-                    }
-                    Numbered::WrongTree => {
-                        return Numbered::WrongTree;
-                    }
-                }
+                let inside = judge_directory(tree, end + 1, below, layers, keys, here)?;
+                worst = inside.worst;
+                i = inside.next;
             }
         }
     }
-    Numbered::WrongTree
+    None
 }
 
-// 0, 27 or 28 of all files of `tree`.
-pub fn judge_layers(tree: &[u8], layers: &[u8], keys: &[u32], count: usize, plen: usize) -> u32
+// Whether all files of `tree` have the layers that they need: else 27 or 28, the lowest.
+pub fn judge_layers(
+    tree: &[u8],
+    layers: &[u8],
+    keys: &[u32],
+    count: usize,
+    plen: usize,
+) -> Result<(), Refused>
     requires { Indexed layers.now keys.now count × (is_piece_length plen ≡ true) × (right (files_in tree.now) ≡ true) }
-    ensures { result ≡ worst tree.now layers.now plen 0 (listed (files_in tree.now)) }
+    ensures { code_of result ≡ worst tree.now layers.now plen 0 (listed (files_in tree.now)) }
 {
     let pad = pad_value(piece_layer(plen));
     let job = Judging {
         count,
         plen,
         pad,
-        number: 0,
+        worst: None,
     };
     match judge_directory(tree, 1, ELEMENTS, layers, keys, job) {
-        Numbered::Past { next: _, number } => number,
-        Numbered::WrongTree => 0, // not of a right tree
+        Some(all) => match all.worst {
+            Some(why) => Err(why),
+            None => Ok(()),
+        },
+        None => Ok(()), // never: the tree is right
     }
 }

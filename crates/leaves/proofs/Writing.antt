@@ -1,12 +1,7 @@
 -- The head and the leaves pasted one behind the other into the output, and what is answered then.
 -- Assumes nothing.
-use mathlib.Core.Path.{◌≡◌, refl, ap, ap₂, sym, ◌∙◌}
-use mathlib.Core.List.{List, [], ◌∷◌, ◌++◌, append_assoc, append-nil}
-use Prim.Native.Nat.{ℕ, zero, suc, ◌+◌, ◌*◌, ◌%◌, ◌^◌, ◌≤◌, ◌<◌}
-use native.Mathlib.Omega.{arith}
-use lib.ListN.{length, set, take, drop, length-append}
-use lib.Seq.{take_all, take-add}
-use lib.Pow.{pow_mono}
+use Rattle.std.specs.Prelude.{◌≡◌, refl, List, [], ◌∷◌, ◌++◌, ℕ, zero, suc, ◌+◌, ◌*◌, ◌%◌, ◌^◌, ◌≤◌, ◌<◌, length, set, take, drop}
+use Rattle.std.proofs.Common.{ap, ap₂, sym, ◌∙◌, append_assoc, append-nil, arith, length-append, take_all, take-add, pow_mono}
 use Rattle.octets.specs.Octets.{cut, be, pasted}
 use Rattle.octets.specs.OctetsLaws.{cut_whole, pasted_append, pasted_none}
 use Rattle.limits.specs.Limits.{tallest_tree}

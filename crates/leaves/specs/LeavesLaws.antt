@@ -1,12 +1,10 @@
 -- How long the message is, what a receiver reads in it, and what is answered.
 -- Assumes nothing.
-use Rattle.std.specs.Prelude.{◌≡◌, length}
+use Rattle.std.specs.Prelude.{◌≡◌, length, List, [], ◌∷◌, ◌++◌, ℕ, zero, suc, ◌+◌, ◌-◌, ◌*◌, ◌^◌, ◌≤◌, ◌<◌}
 use Rattle.std.proofs.Math.Path.{refl, ap}
-use Rattle.std.proofs.Common.{sym, ◌∙◌, add-mul, one-mul, mul-le-mul_right, add-one, arith, length-append, pow-add}
-use mathlib.Core.List.{List, [], ◌∷◌, ◌++◌, append_assoc}
-use Prim.Native.Nat.{ℕ, zero, suc, ◌+◌, ◌-◌, ◌*◌, ◌^◌, ◌≤◌, ◌<◌}
+use Rattle.std.proofs.Common.{sym, ◌∙◌, add-mul, one-mul, mul-le-mul_right, add-one, arith, length-append, pow-add, append_assoc, ne_eqb, le-leb}
 use Rattle.std.proofs.Math.Decide.{ℕ_discrete}
-use borrow.Author.Tests.{ne_eqb, le-leb, lt-leb}
+use Rattle.std.proofs.lemmas.Bool.{lt-leb}
 use Rattle.octets.specs.Octets.{cut, be, pasted, number_at}
 use Rattle.octets.specs.OctetsLaws.{cut_length, cut_append_left, cut_append_right, number_cut, number_of_be, pasted_none}
 use Rattle.numbers.specs.Numbers.{refused, done, no_room}

@@ -1,13 +1,10 @@
 -- What the message is to the store that it was made on: well-formed, its hashes the piece's own leaves, and taken.
 -- Assumes nothing.
-use Rattle.std.specs.Prelude.{◌≡◌, Bool, true, false, cond, ◌&&◌, ℕ, zero, suc, ◌+◌, ◌-◌, ◌*◌, ◌/◌, ◌^◌, ◌≤◌, ◌<◌, leb}
+use Rattle.std.specs.Prelude.{◌≡◌, Bool, true, false, cond, ◌&&◌, ℕ, zero, suc, ◌+◌, ◌-◌, ◌*◌, ◌/◌, ◌^◌, ◌≤◌, ◌<◌, leb, List, [], ◌++◌}
 use Rattle.std.proofs.Math.Path.{refl, ap, ap₂}
-use Rattle.std.proofs.Common.{sym, ◌∙◌, mul_assoc, mul_comm, zero-mul, mul-div_cancel, pow_mono, pow_pos}
-use mathlib.Core.List.{List, [], ◌++◌, append-nil}
+use Rattle.std.proofs.Common.{sym, ◌∙◌, mul_assoc, mul_comm, zero-mul, mul-div_cancel, pow_mono, pow_pos, append-nil, arith, eq-eqb, le-leb, leb-true, le-ltb, ltb-false}
 use Rattle.std.proofs.Math.Nat.{mul-mod_left}
-use native.Mathlib.Omega.{arith}
 use Rattle.std.proofs.Math.ListN.{length}
-use borrow.Author.Tests.{eq-eqb, le-leb, leb-true, le-ltb, ltb-false}
 use Rattle.octets.specs.Octets.{cut, same, zero_hash}
 use Rattle.octets.specs.OctetsLaws.{cut_append_right, same_eq}
 use Rattle.limits.specs.Limits.{tallest_tree}

@@ -1,4 +1,4 @@
-// How large things may be (documents 01 and 02). Each limit stands here once for the code, and once in specs/Limits for the contracts.
+// How large things may be. Each limit stands here once for the code, and once in specs/Limits for the contracts.
 #![tactic(auto)]
 
 // The longest file, in bytes.

@@ -1,18 +1,13 @@
 -- What each function answers, from what its callees ensure and the tests it took.
 -- Assumes nothing.
-use mathlib.Core.Path.{◌≡◌, ap, ap₂, sym, ◌∙◌}
-use mathlib.Core.List.{List}
-use mathlib.Core.Bool.{Bool, true, false}
-use Prim.Native.Nat.{ℕ, ◌+◌, ◌-◌, ◌*◌, ◌%◌, ◌^◌, ◌≤◌, ◌<◌}
-use native.Mathlib.Numerals.{add-one}
-use native.Mathlib.Nat.{zero-add}
-use native.Mathlib.Omega.{arith}
-use lib.ListN.{length, get_or, set, replicate}
-use lib.Seq.{paste, paste-suc}
-use lib.Dec.{eqb}
-use lib.Pow.{pow_mono}
-use borrow.Author.Tests.{eq-eqb, ne_eqb, le-ltb, lt-ltb}
+use Rattle.std.specs.Prelude.{◌≡◌, List, Bool, true, false, ℕ, ◌+◌, ◌*◌, ◌%◌, ◌^◌, ◌≤◌, ◌<◌, length, take, drop, get_or, set, replicate, eqb}
+use Rattle.std.proofs.Common.{refl, ap, ap₂, sym, ◌∙◌, add-one, zero-add, length-take-le, length-drop, arith, pow_mono, eq-eqb, ne_eqb, le-ltb, lt-ltb}
+use Rattle.std.proofs.Math.Seq.{paste, paste-suc}
+use Rattle.std.proofs.lemmas.Slice.{put_mid-paste}
+use borrow.Rule.Slice.PartMut.{put_mid}
+use Rattle.std.proofs.lemmas.List.{length-replicate}
 use Rattle.octets.specs.Octets.{pasted}
+use Rattle.octets.proofs.Turn.{whole}
 use Rattle.numbers.specs.Numbers.{refused, done}
 use Rattle.numbers.specs.declared.Answer.{Answer}
 use Rattle.tree.specs.Geometry.{ceil_div, piece_layer, piece_count, piece_size}
@@ -28,6 +23,12 @@ use Rattle.marks.specs.MarksLaws.{field_bits_more, field_bits_small, field_byte_
 pub row_turn : (d d' : List ℕ) (at : ℕ) (l : List ℕ) (j x : ℕ) → d' ≡ paste d at l j → at + j < length d → j < length l → x ≡ get_or l j 0
     → set d' (at + j) x ≡ paste d at l (j + 1)
 row_turn d d' at l j x e a b q = rw (e, q, add-one) (paste-suc d at l j 0 a b)
+
+-- n bytes of the store from `at` on that became x
+pub part_filled : (s t : List ℕ) (at k n x : ℕ) → k ≡ n → at + n ≤ length s → t ≡ replicate (length (take k (drop at s))) x → put_mid at k s t ≡ pasted s at (replicate n x)
+part_filled s t at k n x e l q =
+    let w : length (take k (drop at s)) ≡ n = length-take-le k (drop at s) (omega (arith, length-drop at s)) ∙ e in
+    whole s (put_mid at k s t) at (replicate n x) n n (put_mid-paste at k s t (replicate n x) n (q ∙ ap (λ (m : ℕ). replicate m x) w) (sym e) (sym (length-replicate n x))) (length-replicate n x) refl
 
 -- ---- a mark
 

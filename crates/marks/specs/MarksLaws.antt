@@ -3,13 +3,12 @@
 -- Assumes nothing.
 use Rattle.std.specs.Prelude.{◌≡◌, List, [], ◌∷◌, ◌++◌, Bool, ◌&&◌, ◌⊎◌, ℕ, zero, suc, ◌+◌, ◌-◌, ◌*◌, ◌^◌, ◌≤◌, ◌<◌, length, get_or, replicate}
 use Rattle.std.proofs.Math.Path.{refl, ap, sym}
-use Rattle.std.proofs.Common.{◌∙◌, inl, inr, length-append, get_or-append-add, pow_pos, pow_mono}
+use Rattle.std.proofs.Common.{◌∙◌, inl, inr, length-append, get_or-append-add, pow_pos, pow_mono, arith, lt-ltb, le-ltb, le-leb, ltb-true}
 use Rattle.std.proofs.Math.Bool.{true, false, and-eq-true_iff}
-use native.Mathlib.Omega.{arith}
 use Rattle.std.proofs.Math.Decide.{ℕ_discrete}
 use Rattle.std.proofs.Math.ListN.{length-replicate, get_or-replicate, get_or-append}
 use Rattle.std.proofs.Math.Dec.{eqb, ltb}
-use borrow.Author.Tests.{lt-ltb, le-ltb, le-leb, lt-leb, ltb-true}
+use Rattle.std.proofs.lemmas.Bool.{lt-leb}
 use Rattle.octets.specs.Octets.{cut, pasted}
 use Rattle.octets.specs.OctetsLaws.{cut_pasted_other, get_or_pasted_in, get_or_pasted_before, get_or_pasted_after, pasted_length}
 use Rattle.numbers.specs.Numbers.{refused, done, rule_broken, unusable, no_room}

@@ -1,15 +1,16 @@
 // The marks of a store's blocks: written, asked for, cleared, and gathered in the bitfield of the pieces.
 #![tactic(auto)]
 
-ghost use Rattle.std.specs.Prelude.{◌≡◌, true, ◌+◌, ◌*◌, ◌^◌, ◌≤◌, ◌<◌, length, replicate};
+ghost use Rattle.std.specs.Prelude.{◌≡◌, true, ◌+◌, ◌*◌, ◌^◌, ◌≤◌, ◌<◌, length};
 ghost use Rattle.octets.specs.Octets.{pasted};
 ghost use Rattle.tree.specs.Geometry.{piece_count};
 ghost use Rattle.cells.specs.Entries.{one_if};
 ghost use Rattle.limits.specs.Limits.{tallest_tree};
 ghost use Rattle.store.specs.Store.{usable, file_length, piece_length, height_of};
+ghost use Rattle.numbers.specs.Refusals.{answer_of, code_of};
 ghost use Rattle.marks.specs.Marks as M;
 
-use numbers::Answer;
+use numbers::{Answer, Refused};
 use store::{blocks_of, file_length, is_usable, piece_length_of, positions_of};
 use tree::geometry::{ceil_div, piece_count, piece_layer, piece_size};
 
@@ -22,18 +23,6 @@ pub fn marks_start(store: &[u8]) -> usize
     31 + 33 * p
 }
 
-// `count` bytes from `at` on become `mark`.
-fn fill(store: &mut [u8], at: usize, count: usize, mark: u8)
-    requires { at + count ≤ length store.old }
-    ensures { store.new ≡ pasted store.old at (replicate count mark) }
-{
-    let mut i = 0;
-    while i < count {
-        store[at + i] = mark;
-        i += 1;
-    }
-}
-
 // The marks of `count` blocks from `block` on become `mark`.
 pub fn put_marks(store: &mut [u8], block: usize, count: usize, mark: u8)
     requires { (usable store.old ≡ true) × (block + count ≤ 2 ^ height_of store.old) }
@@ -41,7 +30,7 @@ pub fn put_marks(store: &mut [u8], block: usize, count: usize, mark: u8)
 {
     let start = marks_start(store);
     let at = start + block;
-    fill(store, at, count, mark);
+    store[at..at + count].fill(mark);
 }
 
 // Whether a block is marked.
@@ -53,46 +42,48 @@ fn is_marked(store: &[u8], block: usize) -> bool
     store[start + block] == 1
 }
 
-// 9, 3, or 0 where the file has the block.
-fn block_there(store: &[u8], block: usize) -> u32
-    ensures { result ≡ M.block_there store.now block }
+// Whether the file has the block: else 9 or 3.
+fn block_there(store: &[u8], block: usize) -> Result<(), Refused>
+    ensures { code_of result ≡ M.block_there store.now block }
 {
-    let ok = is_usable(store);
-    if !ok {
-        return numbers::UNUSABLE;
+    if !is_usable(store) {
+        return Err(Refused::Unusable);
     }
-    let c = blocks_of(store);
-    if block < c {
-        return numbers::DONE;
+    if block < blocks_of(store) {
+        return Ok(());
     }
-    numbers::RULE_BROKEN
+    Err(Refused::RuleBroken)
+}
+
+fn cleared(store: &mut [u8], block: usize) -> Result<u64, Refused>
+    ensures answer { answer_of result ≡ M.clear_answer store.old block }
+    ensures left { store.new ≡ M.clear_after store.old block }
+{
+    block_there(store, block)?;
+    put_marks(store, block, 1, 0);
+    Ok(0)
 }
 
 // Clears a block's mark, whatever stood there; a refusal changes nothing.
 pub fn clear_mark(store: &mut [u8], block: usize) -> Answer
     ensures { (result ≡ M.clear_answer store.old block) × (store.new ≡ M.clear_after store.old block) }
 {
-    let number = block_there(store, block);
-    if number == 0 {
-        put_marks(store, block, 1, 0);
-        return numbers::success(0);
-    }
-    numbers::refusal(number)
+    Answer::from(cleared(store, block))
+}
+
+fn marked(store: &[u8], block: usize) -> Result<u64, Refused>
+    ensures { answer_of result ≡ M.marked_answer store.now block }
+{
+    block_there(store, block)?;
+    let set = is_marked(store, block);
+    Ok(u64::from(set))
 }
 
 // Whether a block is marked: the count is 1 or 0.
 pub fn marked_block(store: &[u8], block: usize) -> Answer
     ensures { result ≡ M.marked_answer store.now block }
 {
-    let number = block_there(store, block);
-    if number == 0 {
-        let set = is_marked(store, block);
-        if set {
-            return numbers::success(1);
-        }
-        return numbers::success(0);
-    }
-    numbers::refusal(number)
+    Answer::from(marked(store, block))
 }
 
 // ---- the blocks of a piece
@@ -134,12 +125,10 @@ pub fn all_marked(store: &[u8], start: usize, block: usize, count: usize) -> boo
     ensures { result ≡ M.all_marked store.now block count }
 {
     let at = start + block;
-    let mut i = 0;
-    while i < count {
+    for i in 0..count {
         if store[at + i] != 1 {
             return false;
         }
-        i += 1;
     }
     true
 }
@@ -158,8 +147,7 @@ fn piece_bit(store: &[u8], piece: usize) -> u8
     let start = marks_start(store);
     let first = first_block(store, piece);
     let n = blocks_in(store, piece);
-    let all = all_marked(store, start, first, n);
-    if all { 1 } else { 0 }
+    u8::from(all_marked(store, start, first, n))
 }
 
 // The byte for eight pieces, the first of them in the highest bit.
@@ -168,11 +156,9 @@ fn field_byte(store: &[u8], piece: usize) -> u8
     ensures { result ≡ M.field_bits store.now piece 8 }
 {
     let mut x = 0;
-    let mut i = 0;
-    while i < 8 {
+    for i in 0..8 {
         let bit = piece_bit(store, piece + i);
         x = x * 2 + bit;
-        i += 1;
     }
     x
 }
@@ -182,30 +168,35 @@ fn write_field(store: &[u8], out: &mut [u8], n: usize)
     requires { (usable store.now ≡ true) × (n ≤ length out.old) × (n ≤ 2 ^ tallest_tree) }
     ensures { out.new ≡ pasted out.old 0 (M.field_bytes store.now n) }
 {
-    let mut i = 0;
-    while i < n {
+    for i in 0..n {
         let piece = 8 * i;
         let x = field_byte(store, piece);
         out[i] = x;
-        i += 1;
     }
 }
 
-// Writes the bitfield of the pieces whose blocks are all marked, and gives its size; 11 where the output is too short.
-pub fn bitfield(store: &[u8], out: &mut [u8]) -> Answer
-    ensures { (result ≡ M.field_answer store.now out.old) × (out.new ≡ M.field_after store.now out.old) }
+// Writes the bitfield, and gives its size.
+fn field(store: &[u8], out: &mut [u8]) -> Result<u64, Refused>
+    ensures answer { answer_of result ≡ M.field_answer store.now out.old }
+    ensures left { out.new ≡ M.field_after store.now out.old }
 {
-    let ok = is_usable(store);
-    if !ok {
-        return numbers::refusal(numbers::UNUSABLE);
+    if !is_usable(store) {
+        return Err(Refused::Unusable);
     }
     let length = file_length(store);
     let plen = piece_length_of(store);
     let c = piece_count(length, plen);
     let size = ceil_div(c, 8);
     if out.len() < size {
-        return numbers::refusal(numbers::NO_ROOM);
+        return Err(Refused::NoRoom);
     }
     write_field(store, out, size);
-    numbers::success(size as u64)
+    Ok(size as u64)
+}
+
+// Writes the bitfield of the pieces whose blocks are all marked, and gives its size; 11 where the output is too short.
+pub fn bitfield(store: &[u8], out: &mut [u8]) -> Answer
+    ensures { (result ≡ M.field_answer store.now out.old) × (out.new ≡ M.field_after store.now out.old) }
+{
+    Answer::from(field(store, out))
 }

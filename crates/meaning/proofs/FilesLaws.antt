@@ -2,8 +2,7 @@
 -- Assumes nothing.
 use Rattle.std.specs.Prelude.{◌≡◌, refl, Bool, true, false, ◌&&◌, List, [], ◌∷◌, ◌++◌, ℕ, zero, suc, ◌+◌, ◌-◌, ◌≤◌, ◌<◌, length}
 use Rattle.std.proofs.lemmas.Bool.{false≢true}
-use native.Mathlib.Omega.{arith}
-use Rattle.std.proofs.Common.{length-append}
+use Rattle.std.proofs.Common.{arith, length-append}
 use Rattle.limits.specs.Limits.{longest_file, max_levels}
 use Rattle.bencode.specs.Grammar.{Value, integer, string, list, dictionary, Entries, no_entries, entry, KeyBefore, none, after, Valid, EntriesValid}
 use Rattle.bencode.specs.Parts.{present}

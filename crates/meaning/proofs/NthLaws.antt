@@ -1,8 +1,6 @@
 -- There is a number n of a list exactly if n is below its length, and only one.
 -- Assumes nothing.
-use Rattle.std.specs.Prelude.{refl, length}
-use mathlib.Core.List.{List, [], ◌∷◌}
-use Prim.Native.Nat.{ℕ, zero, suc, ◌<◌}
+use Rattle.std.specs.Prelude.{refl, length, List, [], ◌∷◌, ℕ, zero, suc, ◌<◌}
 use Rattle.std.proofs.Common.{arith}
 use Rattle.meaning.specs.Nth.{Nth}
 

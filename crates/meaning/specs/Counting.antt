@@ -1,12 +1,9 @@
 -- Lists without repetition: one inside another has at most as many members, and as many only if each is inside the other.
 -- Assumes nothing.
-use Rattle.std.specs.Prelude.{◌≡◌, ◌⊎◌, length}
+use Rattle.std.specs.Prelude.{◌≡◌, ◌⊎◌, length, List, [], ◌∷◌, suc, ◌≤◌}
 use Rattle.std.proofs.Math.Path.{refl, sym, ap}
-use Rattle.std.proofs.Common.{◌∙◌}
+use Rattle.std.proofs.Common.{◌∙◌, arith}
 use Rattle.std.proofs.Math.Logic.{inl, inr}
-use mathlib.Core.List.{List, [], ◌∷◌}
-use Prim.Native.Nat.{suc, ◌≤◌}
-use native.Mathlib.Omega.{arith}
 
 module _ {A : Type 0} where
   -- x is one of the list

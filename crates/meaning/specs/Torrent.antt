@@ -1,6 +1,6 @@
 -- 01, "The torrent": what the numbers 22 to 28 mean of the value that a torrent encodes, and what is read from it.
 -- Assumes nothing.
-use Rattle.std.specs.Prelude.{Bool, true, false, cond, ◌&&◌, ◌||◌, not, List, [], ◌∷◌, ◌++◌, ℕ, ◌+◌, ◌*◌, length, eqb, leb}
+use Rattle.std.specs.Prelude.{Bool, true, false, cond, ◌&&◌, ◌||◌, not, List, [], ◌∷◌, ◌++◌, ℕ, ◌*◌, length, eqb, leb}
 use Rattle.limits.specs.Limits.{longest_file}
 use Rattle.meaning.specs.Keys.{key_length, key_pieces_root, key_info, key_file_tree, key_piece_length, key_meta_version, key_piece_layers}
 use Rattle.octets.specs.Octets.{same, zero_hash}

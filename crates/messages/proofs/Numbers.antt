@@ -1,9 +1,7 @@
 -- One law for each way out of the tests before the header is read.
 -- Assumes nothing.
-use mathlib.Core.Path.{◌≡◌, ap₂, sym, ◌∙◌}
-use mathlib.Core.Bool.{Bool, true, false}
-use mathlib.Core.List.{List}
-use Prim.Native.Nat.{ℕ}
+use Rattle.std.specs.Prelude.{◌≡◌, Bool, true, false, List, ℕ}
+use Rattle.std.proofs.Common.{ap₂, sym, ◌∙◌}
 use Rattle.octets.specs.Octets.{cut, same}
 use Rattle.numbers.specs.Numbers.{no_message, other_root, unusable}
 use Rattle.store.specs.Store.{usable, facts_root}

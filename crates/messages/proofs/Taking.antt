@@ -1,14 +1,8 @@
 -- The functions below the entry points, each by one law over plain variables.
 -- Assumes nothing.
-use mathlib.Core.Path.{◌≡◌, refl, ap, ap₂, sym, ◌∙◌}
-use mathlib.Core.Bool.{Bool, true, false, ◌&&◌}
-use mathlib.Core.List.{List, ◌++◌}
-use Prim.Native.Nat.{ℕ, ◌+◌, ◌-◌, ◌*◌, ◌/◌, ◌^◌, ◌≤◌, ◌<◌}
-use native.Mathlib.Omega.{arith}
-use native.Mathlib.Decide.{ℕ_discrete}
-use lib.ListN.{length, take, drop}
-use lib.Dec.{eqb}
-use borrow.Author.Tests.{eq-eqb, ne_eqb}
+use Rattle.std.specs.Prelude.{◌≡◌, refl, Bool, true, false, ◌&&◌, List, ◌++◌, ℕ, ◌+◌, ◌-◌, ◌*◌, ◌/◌, ◌^◌, ◌≤◌, ◌<◌, length, take, drop, eqb}
+use Rattle.std.proofs.Common.{ap, ap₂, sym, ◌∙◌, arith, eq-eqb, ne_eqb}
+use Rattle.std.proofs.Math.Decide.{ℕ_discrete}
 use Rattle.octets.specs.Octets.{cut, same, zero_hash}
 use Rattle.numbers.specs.Numbers.{refused, done, wrong_size, wrong_padding, no_anchor, judged}
 use Rattle.numbers.specs.declared.Answer.{Answer}
@@ -205,3 +199,11 @@ took s m s' r a p e ep w = elim (ℕ_discrete r 0) [ yes z ↦ on z | no ne ↦ 
         let q = answer_refused r s (settled m p) r refl ne in
         let d = take_refused s m r e ne in
         (w.0 ∙ sym q.0 ∙ d.0, w.1 ∙ sym q.1 ∙ d.1)
+
+-- ---- a && b, as it is worked out
+
+pub both_on : (a b r : Bool) → a ≡ true → r ≡ b → r ≡ (a && b)
+both_on a b r e q = q ∙ sym (rw e)
+
+pub both_off : (a b r : Bool) → a ≡ false → r ≡ a → r ≡ (a && b)
+both_off a b r e q = q ∙ e ∙ sym (rw e)

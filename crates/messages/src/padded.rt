@@ -14,14 +14,12 @@ fn all_from(run: &[u8], v: [u8; 32], from: usize, n: usize) -> bool
     requires { 32 * n ≤ length run.now }
     ensures { result ≡ all_from run.now v from n }
 {
-    let mut i = from;
-    while i < n {
+    for i in from..n {
         let h = hash_at(run, 32 * i);
         let alike = same(h, v);
         if !alike {
             return false;
         }
-        i += 1;
     }
     true
 }

@@ -1,11 +1,10 @@
 -- The keys as the code finds them, one after the other.
 -- Assumes nothing.
-use mathlib.Core.Path.{◌≡◌, refl, ap, ◌∙◌}
-use mathlib.Core.Bool.{Bool, true, false}
-use mathlib.Core.List.{List}
-use Prim.Native.Nat.{ℕ, zero, suc, ◌≤◌, ◌<◌}
-use lib.ListN.{length, drop}
-use borrow.Author.Tests.{eq-eqb, ne_eqb, le-leb, lt-leb}
+use Rattle.bencode.specs.Scalar.{whole}
+use Rattle.bencode.specs.Scalar.{part}
+use Rattle.std.specs.Prelude.{◌≡◌, refl, Bool, true, false, List, ℕ, zero, suc, ◌≤◌, ◌<◌, length, drop, Option, None}
+use Rattle.std.proofs.Common.{ap, ◌∙◌, eq-eqb, ne_eqb, le-leb}
+use Rattle.std.proofs.lemmas.Bool.{lt-leb}
 use Rattle.meaning.specs.Keys.{key_info, key_file_tree, key_piece_length, key_meta_version, key_piece_layers}
 use Rattle.limits.specs.Limits.{largest_torrent}
 use Rattle.numbers.specs.Numbers.{torrent_too_large, other_version, piece_length_out_of_range}
@@ -13,21 +12,14 @@ use Rattle.tree.specs.Geometry.{is_piece_length}
 use Rattle.bencode.specs.Strict.{strictness}
 use Rattle.bencode.specs.Parts.{is_dictionary}
 use Rattle.bencode.specs.declared.scalar.Integer.{Integer}
-use Rattle.bencode.specs.declared.scalar.Integer.TheVariants.{Whole}
-use Rattle.bencode.specs.declared.parts.Found.{Found}
-use Rattle.bencode.specs.declared.parts.Found.TheVariants.{Part, Missing}
-use Rattle.metainfo.specs.Metainfo.{dictionary_in, find_dictionary, find_integer, part_of, no_part, no_keys, right_keys, with_version, with_piece_length, info_keys, with_layers, with_tree, dictionary_keys, with_info, keys_of, if_strict, metainfo_of}
-use Rattle.metainfo.specs.declared.Part.{Part as PartOf}
-use Rattle.metainfo.specs.declared.Keys.{Keys}
+use Rattle.metainfo.specs.Metainfo.{Keys, dictionary_in, find_dictionary, find_integer, part_of, no_keys, right_keys, with_version, with_piece_length, info_keys, with_layers, with_tree, dictionary_keys, with_info, keys_of, if_strict, metainfo_of}
+use Rattle.bencode.specs.declared.part.Part.{Part}
 
-pub dictionary_so : (s : List ℕ) (w : Found) (a b : ℕ) → w ≡ Part a b → is_dictionary (drop a s) ≡ true → dictionary_in s w ≡ Part a b
+pub dictionary_so : (s : List ℕ) (w : Option Part) (a b : ℕ) → w ≡ part a b → is_dictionary (drop a s) ≡ true → dictionary_in s w ≡ part a b
 dictionary_so s w a b e h = ap (dictionary_in s) e ∙ rw h refl
 
-pub dictionary_not : (s : List ℕ) (w : Found) (a b : ℕ) → w ≡ Part a b → is_dictionary (drop a s) ≡ false → dictionary_in s w ≡ Missing
+pub dictionary_not : (s : List ℕ) (w : Option Part) (a b : ℕ) → w ≡ part a b → is_dictionary (drop a s) ≡ false → dictionary_in s w ≡ None
 dictionary_not s w a b e h = ap (dictionary_in s) e ∙ rw h refl
-
-pub none_found : (n : ℕ) (p q r : PartOf) → p ≡ no_part → q ≡ no_part → r ≡ no_part → ◌≡◌ {A = Keys} (record { number = n; plen = 0; info = p; tree = q; layers = r }) (no_keys n)
-none_found n p q r e f g = rw (e, f, g) refl
 
 module _ (k : Keys) (below minus : Bool) (version : ℕ) where
   pub keys_minus : minus ≡ true → right_keys k below minus version ≡ no_keys other_version
@@ -54,24 +46,24 @@ module _ (k : Keys) (below minus : Bool) (version : ℕ) where
         keys_wrong h = rw (e, eq-eqb version 2 f, g, h) refl
 
 module _ (s : List ℕ) where
-  module _ (info tree layers : PartOf) where
-    pub length_found : (w : Integer) → find_integer s info.start key_piece_length ≡ w → info_keys s info tree layers ≡ with_piece_length s info tree layers w
+  module _ (info tree layers : Part) where
+    pub length_found : (w : Option Integer) → find_integer s info.start key_piece_length ≡ w → info_keys s info tree layers ≡ with_piece_length s info tree layers w
     unfolding info_keys
     length_found w e = ap (with_piece_length s info tree layers) e
 
-    pub version_found : (below : Bool) (plen next : ℕ) (w : Integer) → find_integer s info.start key_piece_length ≡ Whole below plen next → find_integer s info.start key_meta_version ≡ w
+    pub version_found : (below : Bool) (plen next : ℕ) (w : Option Integer) → find_integer s info.start key_piece_length ≡ whole below plen next → find_integer s info.start key_meta_version ≡ w
         → info_keys s info tree layers ≡ with_version info tree layers below plen w
-    version_found below plen next w e f = length_found (Whole below plen next) e ∙ ap (with_version info tree layers below plen) f
+    version_found below plen next w e f = length_found (whole below plen next) e ∙ ap (with_version info tree layers below plen) f
 
-  module _ (info : PartOf) where
-    pub tree_found : (w : Found) → find_dictionary s info.start key_file_tree ≡ w → dictionary_keys s info ≡ with_tree s info w
+  module _ (info : Part) where
+    pub tree_found : (w : Option Part) → find_dictionary s info.start key_file_tree ≡ w → dictionary_keys s info ≡ with_tree s info w
     unfolding dictionary_keys
     tree_found w e = ap (with_tree s info) e
 
-    pub layers_found : (a b : ℕ) (w : Found) → find_dictionary s info.start key_file_tree ≡ Part a b → find_dictionary s 0 key_piece_layers ≡ w → dictionary_keys s info ≡ with_layers s info (part_of a b) w
-    layers_found a b w e f = tree_found (Part a b) e ∙ ap (with_layers s info (part_of a b)) f
+    pub layers_found : (a b : ℕ) (w : Option Part) → find_dictionary s info.start key_file_tree ≡ part a b → find_dictionary s 0 key_piece_layers ≡ w → dictionary_keys s info ≡ with_layers s info (part_of a b) w
+    layers_found a b w e f = tree_found (part a b) e ∙ ap (with_layers s info (part_of a b)) f
 
-  pub info_found : (w : Found) → find_dictionary s 0 key_info ≡ w → keys_of s ≡ with_info s w
+  pub info_found : (w : Option Part) → find_dictionary s 0 key_info ≡ w → keys_of s ≡ with_info s w
   unfolding keys_of
   info_found w e = ap (with_info s) e
 

@@ -1,14 +1,10 @@
 -- One turn of the loops that read and write a number's bytes.
 -- Assumes nothing.
-use mathlib.Core.Path.{◌≡◌, ap, ap₂, sym, ◌∙◌}
-use mathlib.Core.List.{List, ◌∷◌, ◌++◌, append_assoc}
-use Prim.Native.Nat.{ℕ, suc, ◌+◌, ◌-◌, ◌*◌, ◌/◌, ◌%◌, ◌^◌, ◌<◌, ◌≤◌}
-use native.Mathlib.Omega.{arith}
-use native.Mathlib.Nat.{pow-suc, pow-le-pow_right, div-div-eq-div-mul, div-one, pow-zero}
-use native.Mathlib.Numerals.{add-one}
-use lib.ListN.{length, take, drop, get_or, set, take-append-drop, length-append, length-take, length-drop}
-use lib.Seq.{take-suc, append_snoc, set_at, length-take-le}
-use lib.Dec.{lit<}
+use Rattle.std.specs.Prelude.{◌≡◌, List, ◌∷◌, ◌++◌, ℕ, suc, ◌+◌, ◌-◌, ◌*◌, ◌/◌, ◌%◌, ◌^◌, ◌<◌, ◌≤◌, length, take, drop, get_or, set}
+use Rattle.std.proofs.Common.{ap, ap₂, sym, ◌∙◌, append_assoc, arith, pow-suc, div-one, add-one, take-append-drop, take-suc, length-take-le, lit<}
+use Rattle.std.proofs.Math.Nat.{pow-le-pow_right, div-div-eq-div-mul, pow-zero}
+use Rattle.std.proofs.Math.Seq.{append_snoc}
+use Rattle.std.proofs.lemmas.List.{set_at}
 use Rattle.octets.specs.Octets.{be, number_at, pasted}
 use Rattle.octets.specs.OctetsLaws.{be_octets}
 
@@ -37,11 +33,6 @@ written_none s at k x = let e : k - k ≡ 0 = omega arith in sym (rw e (take-app
 
 pub rest_none : (k x : ℕ) → x ≡ x / 256 ^ (k - k)
 rest_none k x = let e : k - k ≡ 0 = omega arith in sym (rw (e, pow-zero) (div-one x))
-
-pub written_length : (s : List ℕ) (at k x i : ℕ) → i ≤ k → at + k ≤ length s → length (written s at k x i) ≡ length s
-written_length s at k x i h l =
-    let z = (be_octets (k - i) x).size in
-    simp (length-append, length-take, length-drop) (omega arith)
 
 one_before : (l r : List ℕ) (m v : ℕ) → m < length l → set (take (suc m) l ++ r) m v ≡ take m l ++ (v ∷ r)
 one_before l r m v h =

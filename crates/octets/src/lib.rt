@@ -4,51 +4,36 @@
 ghost use Rattle.std.specs.Prelude.{◌≡◌, ◌+◌, ◌^◌, ◌≤◌, ◌<◌, length};
 ghost use Rattle.octets.specs.Octets as O;
 
-// The 32 bytes at `at`.
-pub fn hash_at(bytes: &[u8], at: usize) -> [u8; 32]
-    requires { at + 32 ≤ length bytes.now }
-    ensures { result ≡ O.cut bytes.now at 32 }
+// The N bytes at `at`: 32 of a SHA-256 hash, 20 of a SHA-1 hash.
+pub fn hash_at<const N: usize>(bytes: &[u8], at: usize) -> [u8; N]
+    requires { at + N ≤ length bytes.now }
+    ensures { result ≡ O.cut bytes.now at N }
 {
-    let mut h = [0u8; 32];
-    let mut i = 0;
-    while i < 32 {
-        h[i] = bytes[at + i];
-        i += 1;
-    }
-    h
+    *bytes[at..].first_chunk().unwrap()
 }
 
-// Writes the 32 bytes at `at`.
-pub fn put_hash(bytes: &mut [u8], at: usize, hash: [u8; 32])
-    requires { at + 32 ≤ length bytes.old }
-    ensures { bytes.new ≡ O.pasted bytes.old at hash }
+// Writes the hash at `at`.
+pub fn put_hash<const N: usize>(bytes: &mut [u8], at: usize, hash: [u8; N])
+    requires { at + N ≤ length bytes.old }
+    ensures { bytes.new ≡ O.pasted bytes.old at hash.entry }
 {
-    let mut i = 0;
-    while i < 32 {
+    for i in 0..N {
         bytes[at + i] = hash[i];
-        i += 1;
     }
 }
 
 // Whether two hashes are the same, all bytes compared. The one place where hashes are compared.
-pub fn same(one: [u8; 32], other: [u8; 32]) -> bool
-    ensures { result ≡ O.same one other }
+pub fn same<const N: usize>(one: [u8; N], other: [u8; N]) -> bool
+    ensures { result ≡ O.same one.entry other.entry }
 {
-    let mut i = 0;
-    while i < 32 {
-        if one[i] != other[i] {
-            return false;
-        }
-        i += 1;
-    }
-    true
+    one == other
 }
 
 // A byte as a number.
 pub fn wide(byte: u8) -> usize
     ensures { (result ≡ byte) × (result < 256) }
 {
-    byte as usize
+    usize::from(byte)
 }
 
 // The number that `size` bytes at `at` write, the most significant first.
@@ -57,11 +42,9 @@ pub fn number_at(bytes: &[u8], at: usize, size: usize) -> usize
     ensures { (result ≡ O.number_at bytes.now at size) × (result < 256 ^ size) }
 {
     let mut x = 0;
-    let mut i = 0;
-    while i < size {
+    for i in 0..size {
         let b = wide(bytes[at + i]);
         x = x * 256 + b;
-        i += 1;
     }
     x
 }
@@ -72,11 +55,9 @@ pub fn put_number(bytes: &mut [u8], at: usize, size: usize, number: usize)
     ensures { bytes.new ≡ O.pasted bytes.old at (O.be size number) }
 {
     let mut rest = number;
-    let mut i = size;
-    while 0 < i {
-        i -= 1;
+    for i in (0..size).rev() {
         bytes[at + i] = (rest % 256) as u8;
-        rest = rest / 256;
+        rest /= 256;
     }
 }
 
@@ -85,9 +66,5 @@ pub fn clear(bytes: &mut [u8], count: usize)
     requires { count ≤ length bytes.old }
     ensures { bytes.new ≡ O.zeroed bytes.old count }
 {
-    let mut i = 0;
-    while i < count {
-        bytes[i] = 0;
-        i += 1;
-    }
+    bytes[..count].fill(0);
 }

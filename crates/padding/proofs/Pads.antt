@@ -1,87 +1,39 @@
 -- What the stores of the padding code leave.
 -- Assumes nothing.
-use mathlib.Core.Path.{◌≡◌, refl, ap, sym, ◌∙◌}
-use mathlib.Core.List.{List, [], ◌∷◌, ◌++◌, append_assoc}
-use Prim.Native.Nat.{ℕ, suc, ◌+◌, ◌-◌, ◌*◌, ◌/◌, ◌%◌, ◌^◌, ◌<◌, ◌≤◌}
-use native.Mathlib.Omega.{arith}
-use native.Mathlib.Numerals.{add-one}
-use lib.ListN.{length, get_or, take, drop, set, replicate, length-append, length-replicate, replicate-append-replicate, length-take, length-drop}
-use lib.Seq.{sets, sets-eq, set_at, take_at, take_all, take-suc, append_snoc, length-take-le}
+use Rattle.std.specs.Prelude.{◌≡◌, refl, List, ◌∷◌, ◌++◌, ℕ, suc, ◌+◌, ◌-◌, ◌*◌, ◌/◌, ◌%◌, ◌^◌, ◌<◌, ◌≤◌, length, take, drop, set, replicate}
+use Rattle.std.proofs.Common.{ap, sym, ◌∙◌, append_assoc, arith, length-append, length-take, length-drop, take_at, take_all}
+use Rattle.std.proofs.lemmas.List.{length-replicate, replicate-append-replicate, set_at}
+use Rattle.std.specs.Int.{to_be_bytes, w64}
+use borrow.Rule.Slice.PartMut.{put_mid, post_of, Post-is}
 use Rattle.octets.specs.Octets.{be}
+use Rattle.octets.specs.OctetsLaws.{zeros_behind}
 use Rattle.padding.specs.Padding.{zeros, padding}
 use Rattle.padding.specs.PaddingLaws.{length_padding}
 
--- a byte of the count of bits is one of the count of bytes, shifted
-bits7 : (n : ℕ) → n / 2 ^ 53 % 256 ≡ 8 * n / 256 ^ 7 % 256
-bits7 n = omega arith
+-- the count of bits, modulo 2 ^ 64, in the library's bytes
+pub count_bytes : (n : ℕ) → to_be_bytes w64 (n * 8 % 2 ^ 64) ≡ be 8 (8 * n)
+count_bytes n =
+    let b7 : n * 8 % 2 ^ 64 / 256 ^ 7 % 256 ≡ 8 * n / 256 ^ 7 % 256 = omega arith in
+    let b6 : n * 8 % 2 ^ 64 / 256 ^ 6 % 256 ≡ 8 * n / 256 ^ 6 % 256 = omega arith in
+    let b5 : n * 8 % 2 ^ 64 / 256 ^ 5 % 256 ≡ 8 * n / 256 ^ 5 % 256 = omega arith in
+    let b4 : n * 8 % 2 ^ 64 / 256 ^ 4 % 256 ≡ 8 * n / 256 ^ 4 % 256 = omega arith in
+    let b3 : n * 8 % 2 ^ 64 / 256 ^ 3 % 256 ≡ 8 * n / 256 ^ 3 % 256 = omega arith in
+    let b2 : n * 8 % 2 ^ 64 / 256 ^ 2 % 256 ≡ 8 * n / 256 ^ 2 % 256 = omega arith in
+    let b1 : n * 8 % 2 ^ 64 / 256 ^ 1 % 256 ≡ 8 * n / 256 ^ 1 % 256 = omega arith in
+    let b0 : n * 8 % 2 ^ 64 % 256 ≡ 8 * n / 256 ^ 0 % 256 = omega arith in
+    rw (b7, b6, b5, b4, b3, b2, b1, b0) refl
 
-bits6 : (n : ℕ) → n / 2 ^ 45 % 256 ≡ 8 * n / 256 ^ 6 % 256
-bits6 n = omega arith
+-- eight bytes over those from `at` on
+pub put_eight : (b v w : List ℕ) (at : ℕ) → v ≡ w → put_mid at (at + 8 - at) b v ≡ take at b ++ (w ++ drop (at + 8) b)
+put_eight b v w at e =
+    ap (λ (l : List ℕ). take at b ++ (l ++ post_of at (at + 8 - at) b)) e
+    ∙ ap (λ (l : List ℕ). take at b ++ (w ++ l)) (Post-is at (at + 8) b (omega arith))
 
-bits5 : (n : ℕ) → n / 2 ^ 37 % 256 ≡ 8 * n / 256 ^ 5 % 256
-bits5 n = omega arith
-
-bits4 : (n : ℕ) → n / 2 ^ 29 % 256 ≡ 8 * n / 256 ^ 4 % 256
-bits4 n = omega arith
-
-bits3 : (n : ℕ) → n / 2 ^ 21 % 256 ≡ 8 * n / 256 ^ 3 % 256
-bits3 n = omega arith
-
-bits2 : (n : ℕ) → n / 2 ^ 13 % 256 ≡ 8 * n / 256 ^ 2 % 256
-bits2 n = omega arith
-
-bits1 : (n : ℕ) → n / 2 ^ 5 % 256 ≡ 8 * n / 256 ^ 1 % 256
-bits1 n = omega arith
-
-bits0 : (n : ℕ) → n % 32 * 8 % 256 ≡ 8 * n / 256 ^ 0 % 256
-bits0 n = omega arith
-
--- eight stores in a row
-pub eight_stores :
-    (b : List ℕ) (at n v0 v1 v2 v3 v4 v5 v6 v7 : ℕ)
-    → at + 8 ≤ length b
-    → v0 ≡ n / 2 ^ 53 % 256
-    → v1 ≡ n / 2 ^ 45 % 256
-    → v2 ≡ n / 2 ^ 37 % 256
-    → v3 ≡ n / 2 ^ 29 % 256
-    → v4 ≡ n / 2 ^ 21 % 256
-    → v5 ≡ n / 2 ^ 13 % 256
-    → v6 ≡ n / 2 ^ 5 % 256
-    → v7 ≡ n % 32 * 8 % 256
-    → set (set (set (set (set (set (set (set b at v0) (at + 1) v1) (at + 2) v2) (at + 3) v3) (at + 4) v4) (at + 5) v5) (at + 6) v6) (at + 7) v7
-    ≡ take at b ++ (be 8 (8 * n) ++ drop (at + 8) b)
-eight_stores b at n v0 v1 v2 v3 v4 v5 v6 v7 h p0 p1 p2 p3 p4 p5 p6 p7 =
-    let e1 : at + 1 ≡ suc at = omega arith in
-    let e2 : at + 2 ≡ suc (suc at) = omega arith in
-    let e3 : at + 3 ≡ suc (suc (suc at)) = omega arith in
-    let e4 : at + 4 ≡ suc (suc (suc (suc at))) = omega arith in
-    let e5 : at + 5 ≡ suc (suc (suc (suc (suc at)))) = omega arith in
-    let e6 : at + 6 ≡ suc (suc (suc (suc (suc (suc at))))) = omega arith in
-    let e7 : at + 7 ≡ suc (suc (suc (suc (suc (suc (suc at)))))) = omega arith in
-    let q0 = p0 ∙ bits7 n in
-    let q1 = p1 ∙ bits6 n in
-    let q2 = p2 ∙ bits5 n in
-    let q3 = p3 ∙ bits4 n in
-    let q4 = p4 ∙ bits3 n in
-    let q5 = p5 ∙ bits2 n in
-    let q6 = p6 ∙ bits1 n in
-    let q7 = p7 ∙ bits0 n in
-    let vs : List ℕ = v0 ∷ v1 ∷ v2 ∷ v3 ∷ v4 ∷ v5 ∷ v6 ∷ v7 ∷ [] in
-    let l : sets b at vs ≡ (take at b ++ vs) ++ drop (at + 8) b = sets-eq vs b at h in
-    rw (e1, e2, e3, e4, e5, e6, e7) (l ∙ append_assoc (take at b) vs (drop (at + 8) b) ∙ rw (q0, q1, q2, q3, q4, q5, q6, q7))
-
--- one byte more of a copy over zeros
-pub copy_more :
-    (s : List ℕ) (i : ℕ)
-    → i < length s
-    → i < 128
-    → set (take i s ++ replicate (128 - i) 0) i (get_or s i 0) ≡ take (i + 1) s ++ replicate (128 - (i + 1)) 0
-copy_more s i h g =
-    let e : 128 - i ≡ suc (128 - (i + 1)) = omega arith in
-    rw (e, add-one i)
-    (set_at (take i s) 0 (replicate (128 - suc i) 0) (get_or s i 0) i (length-take-le i s (omega arith))
-    ∙ sym (append_snoc (take i s) (get_or s i 0) (replicate (128 - suc i) 0))
-    ∙ ap (λ (l : List ℕ). l ++ replicate (128 - suc i) 0) (sym (take-suc s i 0 h)))
+-- a copy over zeros
+pub copied : (s v : List ℕ) → length s ≤ 128 → v ≡ s → v ++ drop (length s) (replicate 128 0) ≡ take (length s) s ++ replicate (128 - length s) 0
+copied s v h e =
+    ap (λ (l : List ℕ). l ++ drop (length s) (replicate 128 0)) (e ∙ sym (take_all (length s) s (omega arith)))
+    ∙ ap (λ (l : List ℕ). take (length s) s ++ l) (zeros_behind 128 (length s) h)
 
 -- the byte 0x80 after the copy
 pub mark : (s : List ℕ) (i : ℕ) → i ≡ length s → i < 128

@@ -1,11 +1,8 @@
 -- The tail array from its two copies.
 -- Assumes nothing.
-use mathlib.Core.Path.{◌≡◌, ap, ap₂, sym, ◌∙◌}
-use mathlib.Core.List.{List, ◌++◌}
-use Prim.Native.Nat.{ℕ, ◌+◌, ◌-◌, ◌≤◌}
-use native.Mathlib.Omega.{arith}
-use lib.ListN.{length, take, replicate, length-append, length-replicate}
-use lib.Seq.{length-take-le}
+use Rattle.std.specs.Prelude.{◌≡◌, List, ◌++◌, ℕ, ◌+◌, ◌-◌, ◌≤◌, length, take, replicate}
+use Rattle.std.proofs.Common.{ap, ap₂, sym, ◌∙◌, arith, length-append, length-take-le}
+use Rattle.std.proofs.lemmas.List.{length-replicate}
 use Rattle.octets.specs.Octets.{pasted}
 use Rattle.octets.specs.OctetsLaws.{pasted_append, zeros_behind}
 use Rattle.padding.specs.Running.{tail_array}

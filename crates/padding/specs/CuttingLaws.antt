@@ -1,12 +1,10 @@
 -- Laws of the cutting into blocks, for any block function f.
 -- Assumes nothing.
-use Rattle.std.specs.Prelude.{◌≡◌}
+use Rattle.std.specs.Prelude.{◌≡◌, List, ◌++◌, ℕ, zero, suc, ◌+◌, ◌-◌, ◌*◌, ◌/◌, ◌%◌, ◌≤◌}
 use Rattle.std.proofs.Math.Path.{refl, ap, sym}
-use Rattle.std.proofs.Common.{◌∙◌, drop_at, drop-drop}
-use mathlib.Core.List.{List, ◌++◌}
-use Prim.Native.Nat.{ℕ, zero, suc, ◌+◌, ◌-◌, ◌*◌, ◌/◌, ◌%◌, ◌≤◌}
-use native.Mathlib.Omega.{arith}
+use Rattle.std.proofs.Common.{◌∙◌, drop_at, drop-drop, arith}
 use Rattle.std.proofs.Math.Nat.{add-zero, add-suc}
+use Rattle.std.proofs.Math.Numerals.{add-one}
 use Rattle.std.proofs.Math.ListN.{length, take, drop, length-append, length-drop}
 use Rattle.std.proofs.Math.Seq.{take_all, take-append-le, drop-append-le}
 use Rattle.padding.specs.Padding.{padding, padded, zeros}
@@ -19,15 +17,9 @@ module _ {S : Type 0} (f : S → List ℕ → S) where
   no_blocks z m = refl
 
   -- one block more
-  pub blocks_more :
-      (m : List ℕ) (z : S) (at : ℕ)
-      → at % 64 ≡ 0
-      → f (over_blocks f (at / 64) z m) (take 64 (drop at m)) ≡ over_blocks f ((at + 64) / 64) z m
+  pub blocks_more : (m : List ℕ) (z : S) (i : ℕ) → f (over_blocks f i z m) (take 64 (drop (64 * i) m)) ≡ over_blocks f (i + 1) z m
   unfolding over_blocks
-  blocks_more m z at h =
-      let e : (at + 64) / 64 ≡ suc (at / 64) = omega arith in
-      let g : 64 * (at / 64) ≡ at = omega arith in
-      rw e (rw g)
+  blocks_more m z i = rw (add-one i) refl
 
   -- the blocks of a first part, and then of the rest
   pub blocks_split : (m : List ℕ) (z : S) (a b : ℕ) → over_blocks f (a + b) z m ≡ over_blocks f b (over_blocks f a z m) (drop (64 * a) m)
@@ -93,6 +85,20 @@ module _ {S : Type 0} (f : S → List ℕ → S) where
       ∙ blocks_split (m ++ x) z (length m / 64) (length (drop at m ++ x) / 64)
       ∙ ap (λ (l : List ℕ). over_blocks f (length (drop at m ++ x) / 64) (over_blocks f (length m / 64) z (m ++ x)) l) d
       ∙ ap (λ (s : S). over_blocks f (length (drop at m ++ x) / 64) s (drop at m ++ x)) (blocks_prefix m x z (length m / 64) (omega arith)))
+
+  -- the same, with the last bytes as code cuts them off
+  pub message_parts :
+      (m : List ℕ) (z t : S)
+      → t ≡ over_blocks f (length m / 64) z m
+      → let at : ℕ = length m - length m % 64 in
+      let rest : List ℕ = take (length m - at) (drop at m) in
+      over_blocks f (length (rest ++ padding (length m)) / 64) t (rest ++ padding (length m)) ≡ over_message f z m
+  message_parts m z t h =
+      let at : ℕ = length m - length m % 64 in
+      let e : take (length m - at) (drop at m) ≡ drop at m = take_all (length m - at) (drop at m) (omega (arith, length-drop at m)) in
+      ap (λ (l : List ℕ). over_blocks f (length (l ++ padding (length m)) / 64) t (l ++ padding (length m))) e
+      ∙ ap (λ (s : S). over_blocks f (length (drop at m ++ padding (length m)) / 64) s (drop at m ++ padding (length m))) h
+      ∙ message_split m z at refl
 
   -- a message of 64 bytes: its own block, and a block that is always the same
   pub message_of_64 : (m : List ℕ) (z : S) → length m ≡ 64 → f (f z m) (padding 64) ≡ over_message f z m

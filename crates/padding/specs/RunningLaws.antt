@@ -1,11 +1,8 @@
 -- Laws of a message that comes in bursts: cutting it elsewhere leads to the same, and the end is the hash of the whole.
 -- Assumes nothing.
-use Rattle.std.specs.Prelude.{◌≡◌, refl, take}
+use Rattle.std.specs.Prelude.{◌≡◌, refl, take, List, ◌++◌, ℕ, ◌+◌, ◌-◌, ◌*◌, ◌/◌, ◌%◌, ◌<◌, ◌≤◌}
 use Rattle.std.proofs.Math.Path.{ap, ap₂, sym}
-use Rattle.std.proofs.Common.{◌∙◌, drop-drop}
-use mathlib.Core.List.{List, ◌++◌, append_assoc}
-use Prim.Native.Nat.{ℕ, ◌+◌, ◌-◌, ◌*◌, ◌/◌, ◌%◌, ◌<◌, ◌≤◌}
-use native.Mathlib.Omega.{arith}
+use Rattle.std.proofs.Common.{◌∙◌, drop-drop, append_assoc, arith}
 use Rattle.std.proofs.Math.ListN.{length, drop, length-append, length-drop}
 use Rattle.std.proofs.lemmas.List.{drop-append-le}
 use Rattle.padding.specs.Cutting.{over_blocks, over_message}

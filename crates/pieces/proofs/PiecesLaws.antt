@@ -1,13 +1,11 @@
 -- What follows from the definitions of Pieces: where a layer and a piece lie in the tree, what each number says, what loading a layer leaves.
 -- Assumes nothing.
 use Rattle.std.specs.Prelude.{◌≡◌, refl, List, Bool, true, ◌⊎◌, ℕ, ◌+◌, ◌-◌, ◌*◌, ◌^◌, ◌≤◌, ◌<◌, length, eqb, ltb}
-use Rattle.std.proofs.Common.{ap, sym, ◌∙◌, inl, inr, mul_assoc, pow_mono, pow-add}
+use Rattle.std.proofs.Common.{ap, sym, ◌∙◌, inl, inr, mul_assoc, pow_mono, pow-add, arith, ltb-true, ltb-false, eqb-true, lt-ltb, eq-eqb, ne_eqb}
 use Rattle.std.proofs.Math.Path.{ap₂}
 use Rattle.std.proofs.Math.Bool.{false}
 use Rattle.std.proofs.Math.Nat.{one-mul}
-use native.Mathlib.Omega.{arith}
 use Rattle.std.proofs.Math.Pow.{pow_pos}
-use borrow.Author.Tests.{ltb-true, ltb-false, eqb-true, lt-ltb, eq-eqb, ne_eqb}
 use Rattle.tree.specs.Geometry.{block_length, Padding, covering, node_number, has_layer, piece_count, block_size, piece_size}
 use Rattle.tree.proofs.GeometryLaws.{ceil_least, covering_most, covering_within, covering_until_padding, long_file_height, node_number_root, node_number_layer, piece_length_form}
 use Rattle.tree.specs.Values.{node, pad_value, leaf_of, layer_leaf}

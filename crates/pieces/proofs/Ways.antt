@@ -1,11 +1,6 @@
 -- One law for each way out of the functions that give a number: the callees' answers and the tests taken make one case of the definition.
-use mathlib.Core.Path.{◌≡◌, ap, ap₂, sym, ◌∙◌}
-use mathlib.Core.List.{List}
-use mathlib.Core.Bool.{Bool, true, false}
-use Prim.Native.Nat.{ℕ, ◌+◌, ◌-◌, ◌*◌, ◌^◌, ◌≤◌, ◌<◌}
-use native.Mathlib.Omega.{arith}
-use lib.ListN.{length}
-use borrow.Author.Tests.{lt-ltb, le-ltb, eq-eqb, ne_eqb}
+use Rattle.std.specs.Prelude.{◌≡◌, refl, List, Bool, true, false, cond, ℕ, ◌+◌, ◌-◌, ◌*◌, ◌^◌, ◌≤◌, ◌<◌, length}
+use Rattle.std.proofs.Common.{ap, ap₂, sym, ◌∙◌, arith, lt-ltb, le-ltb, eq-eqb, ne_eqb}
 use Rattle.octets.specs.Octets.{same}
 use Rattle.numbers.specs.Numbers.{refused, done, rule_broken, wrong_size, no_anchor, unusable, judged}
 use Rattle.numbers.specs.declared.Answer.{Answer}
@@ -28,33 +23,26 @@ use Rattle.pieces.proofs.PiecesLaws.{layered, piece_in_lem, pieces_few, layer_wi
 
 -- ---- 6, 7, 8 or 0
 
--- the held hash compared with what was worked out
-pub seen_judged : (s : List ℕ) (n : ℕ) (worked mine : List ℕ) (o v : Bool) (r : ℕ) → mine ≡ hash_at s n → v ≡ same mine worked → r ≡ judged true v o
-    → r ≡ judged true (same (hash_at s n) worked) o
-seen_judged s n worked mine o v r m e q = q ∙ ap (λ (x : Bool). judged true x o) (e ∙ ap (λ (x : List ℕ). same x worked) m)
+-- an anchor that is not refused is held, one that is refused is not and gets 6
+held_anchor : (b : Bool) → 0 ≡ cond b 0 no_anchor → b ≡ true
+held_anchor true e = refl
+held_anchor false e = absurd (omega (arith, e))
 
-module _ (s : List ℕ) (n : ℕ) (t : Bool) (a : t ≡ held_at s n) where
-  module _ (leaf : ℕ → List ℕ) (k : ℕ) where
-    pub judged_6 : t ≡ false → no_anchor ≡ judged_at s leaf k n
-    unfolding judged_at
-    judged_6 f = sym (rw (← a, f))
+lost_anchor : (b : Bool) (r : ℕ) → r ≡ cond b 0 no_anchor → (r ≡ 0 → ⊥) → (r ≡ no_anchor) × (b ≡ false)
+lost_anchor true r e z = absurd (z e)
+lost_anchor false r e z = (e, refl)
 
-    pub judged_held : t ≡ true → (worked : List ℕ) (o : Bool) (r : ℕ)
-        → (worked ≡ node leaf k 0) × (o ≡ agrees s (subtree leaf k n 0)) → r ≡ judged true (same (hash_at s n) worked) o → r ≡ judged_at s leaf k n
-    unfolding judged_at
-    judged_held y worked o r w q =
-        q ∙ ap₂ (λ (x : List ℕ) (z : Bool). judged true (same (hash_at s n) x) z) w.0 w.1
-        ∙ ap (λ (x : Bool). judged x (same (hash_at s n) (node leaf k 0)) (agrees s (subtree leaf k n 0))) (sym y ∙ a)
+module _ (s : List ℕ) (n : ℕ) (leaf : ℕ → List ℕ) (k : ℕ) where
+  pub judged_6 : (r : ℕ) → r ≡ cond (held_at s n) 0 no_anchor → (r ≡ 0 → ⊥) → r ≡ judged_at s leaf k n
+  unfolding judged_at
+  judged_6 r e z = let w = lost_anchor (held_at s n) r e z in w.0 ∙ sym (rw w.1)
 
-  module _ (block : List ℕ) where
-    pub leaf_6 : t ≡ false → no_anchor ≡ judged (held_at s n) (same (hash_at s n) (sha256 block)) true
-    leaf_6 f = sym (rw (← a, f))
-
-    pub leaf_held : t ≡ true → (worked : List ℕ) (r : ℕ) → worked ≡ sha256 block → r ≡ judged true (same (hash_at s n) worked) true
-        → r ≡ judged (held_at s n) (same (hash_at s n) (sha256 block)) true
-    leaf_held y worked r w q =
-        q ∙ ap (λ (x : List ℕ). judged true (same (hash_at s n) x) true) w
-        ∙ ap (λ (x : Bool). judged x (same (hash_at s n) (sha256 block)) true) (sym y ∙ a)
+  pub judged_held : 0 ≡ cond (held_at s n) 0 no_anchor → (worked : List ℕ) (o : Bool) (r : ℕ)
+      → (worked ≡ node leaf k 0) × (o ≡ agrees s (subtree leaf k n 0)) → r ≡ judged true (same (hash_at s n) worked) o → r ≡ judged_at s leaf k n
+  unfolding judged_at
+  judged_held e worked o r w q =
+      q ∙ ap₂ (λ (x : List ℕ) (z : Bool). judged true (same (hash_at s n) x) z) w.0 w.1
+      ∙ ap (λ (x : Bool). judged x (same (hash_at s n) (node leaf k 0)) (agrees s (subtree leaf k n 0))) (sym (held_anchor (held_at s n) e))
 
 -- ---- a layer, looked at or written
 

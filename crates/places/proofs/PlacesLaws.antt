@@ -2,9 +2,9 @@
 -- Assumes nothing.
 use Rattle.std.specs.Prelude.{◌≡◌, Bool, true, false, cond, ◌&&◌, List, ℕ, zero, suc, ◌+◌, ◌-◌, ◌*◌, ◌%◌, ◌≤◌, ◌<◌, length, eqb, leb}
 use Rattle.std.proofs.Math.Path.{refl}
-use Rattle.std.proofs.Common.{ap, sym, ◌∙◌, mul-le-mul_left, mul-one, add-one, arith}
+use Rattle.std.proofs.Common.{ap, sym, ◌∙◌, mul-le-mul_left, mul-one, add-one, arith, eq-eqb, ne_eqb, eqb-true, le-leb, leb-true, lt-ltb, le-ltb}
 use Rattle.std.proofs.Math.Bool.{and-eq-true_iff}
-use borrow.Author.Tests.{eq-eqb, ne_eqb, eqb-true, le-leb, lt-leb, leb-true, lt-ltb, le-ltb}
+use Rattle.std.proofs.lemmas.Bool.{lt-leb}
 use Rattle.limits.specs.Limits.{longest_file, largest_torrent}
 use Rattle.numbers.specs.Numbers.{refused, done, wrong_size, piece_length_out_of_range, no_such_part}
 use Rattle.tree.specs.Geometry.{is_piece_length, piece_count}

@@ -1,12 +1,15 @@
 -- What hosts need: pieces as they are counted on the wire, file by file in tree order, by the records that `kd_torrent_list` writes.
 -- Assumes nothing.
-use Rattle.std.specs.Prelude.{Bool, true, cond, ◌&&◌, List, ℕ, zero, suc, ◌+◌, ◌-◌, ◌*◌, ◌/◌, ◌%◌, length, eqb, leb, ltb}
+use Rattle.std.specs.Prelude.{Bool, true, cond, ◌&&◌, List, ℕ, zero, suc, ◌+◌, ◌-◌, ◌*◌, ◌/◌, ◌%◌, length, eqb, leb, ltb, Result, Ok, Err}
 use Rattle.limits.specs.Limits.{longest_file, largest_torrent}
 use Rattle.octets.specs.Octets.{number_at}
 use Rattle.numbers.specs.Numbers.{refused, done, wrong_size, piece_length_out_of_range, no_such_part}
 use Rattle.numbers.specs.declared.Answer.{Answer}
 use Rattle.tree.specs.Geometry.{is_piece_length, piece_count}
 use Rattle.catalogue.specs.Catalogue.{record_size}
+use Rattle.numbers.specs.Refusals.{number_of}
+use Rattle.numbers.specs.declared.Refused.{Refused}
+use Rattle.places.specs.declared.FilePiece.{FilePiece}
 use Rattle.places.specs.declared.Placed.{Placed}
 
 -- how many records a list has, and the length that record n names
@@ -51,6 +54,11 @@ first_answer list plen file =
 -- beside a refusal all are zero
 abbrev pub no_place : ℕ → Placed
 no_place n = record { number = n; file = 0; piece = 0 }
+
+-- what C gets of an outcome
+abbrev pub placed_of : Result FilePiece Refused → Placed
+placed_of (Ok p) = record { number = 0; file = p.file; piece = p.piece }
+placed_of (Err why) = no_place (number_of why)
 
 abbrev pub place_at : ℕ → ℕ → Placed
 place_at file piece = record { number = 0; file = file; piece = piece }

@@ -4,10 +4,11 @@
 ghost use Rattle.std.specs.Prelude.{◌≡◌, true, ◌+◌, ◌*◌, ◌≤◌, length};
 ghost use Rattle.tree.specs.Geometry.{is_piece_length};
 ghost use Rattle.catalogue.specs.Catalogue.{record_size};
+ghost use Rattle.numbers.specs.Refusals.{answer_of, code_of};
 ghost use Rattle.places.specs.Places as P;
 
 use catalogue::RECORD;
-use numbers::{Answer, refusal, success};
+use numbers::{Answer, Refused};
 use octets::number_at;
 use tree::geometry::{is_piece_length, piece_count};
 
@@ -20,13 +21,29 @@ pub struct Placed {
     pub piece: u64,
 }
 
-fn no_place(number: u32) -> Placed
-    ensures { result ≡ P.no_place number }
-{
-    Placed {
-        number,
-        file: 0,
-        piece: 0,
+// A file's number, and a piece's number in it.
+#[derive(Clone, Copy)]
+pub struct FilePiece {
+    pub file: usize,
+    pub piece: usize,
+}
+
+impl From<Result<FilePiece, Refused>> for Placed {
+    ghost from_gives = { λ outcome placed. placed ≡ P.placed_of outcome };
+
+    fn from(outcome: Result<FilePiece, Refused>) -> Placed {
+        match outcome {
+            Ok(place) => Placed {
+                number: numbers::DONE,
+                file: place.file as u64,
+                piece: place.piece as u64,
+            },
+            Err(why) => Placed {
+                number: u32::from(why),
+                file: 0,
+                piece: 0,
+            },
+        }
     }
 }
 
@@ -43,13 +60,11 @@ fn lengths_right(list: &[u8], files: usize) -> bool
     requires { record_size * files ≤ length list.now }
     ensures { result ≡ P.lengths_right list.now 0 files }
 {
-    let mut i = 0;
-    while i < files {
+    for i in 0..files {
         let n = length_of(list, i);
         if limits::LONGEST_FILE < n {
             return false;
         }
-        i += 1;
     }
     true
 }
@@ -68,19 +83,19 @@ fn list_right(list: &[u8]) -> bool
     lengths_right(list, files)
 }
 
-// 4, 24 or 0.
-fn list_number(list: &[u8], plen: usize) -> u32
-    ensures { result ≡ P.list_number list.now plen }
+// Whether the list and the piece length are in their form: else 4 or 24.
+fn list_fits(list: &[u8], plen: usize) -> Result<(), Refused>
+    ensures { code_of result ≡ P.list_number list.now plen }
 {
     let right = list_right(list);
     if !right {
-        return numbers::WRONG_SIZE;
+        return Err(Refused::WrongSize);
     }
     let range = is_piece_length(plen);
     if !range {
-        return numbers::PIECE_LENGTH_OUT_OF_RANGE;
+        return Err(Refused::PieceLengthOutOfRange);
     }
-    numbers::DONE
+    Ok(())
 }
 
 // The pieces of the first `file` files.
@@ -89,62 +104,62 @@ fn pieces_before(list: &[u8], plen: usize, file: usize) -> usize
     ensures { result ≡ P.pieces_before list.now plen file }
 {
     let mut sum = 0;
-    let mut i = 0;
-    while i < file {
+    for i in 0..file {
         let n = length_of(list, i);
         let c = piece_count(n, plen);
         sum += c;
-        i += 1;
     }
     sum
+}
+
+fn first_of(list: &[u8], plen: usize, file: usize) -> Result<u64, Refused>
+    ensures { answer_of result ≡ P.first_answer list.now plen file }
+{
+    list_fits(list, plen)?;
+    if file >= list.len() / RECORD {
+        return Err(Refused::NoSuchPart);
+    }
+    let n = pieces_before(list, plen, file);
+    Ok(n as u64)
 }
 
 // The first piece of a file: 4, 24, 29, or 0 and its number on the wire.
 pub fn first_piece(list: &[u8], plen: usize, file: usize) -> Answer
     ensures { result ≡ P.first_answer list.now plen file }
 {
-    let number = list_number(list, plen);
-    if number != numbers::DONE {
-        return refusal(number);
-    }
-    if file < list.len() / RECORD {
-        let n = pieces_before(list, plen, file);
-        return success(n as u64);
-    }
-    refusal(numbers::NO_SUCH_PART)
+    Answer::from(first_of(list, plen, file))
 }
 
-// The file that has the piece, of all.
-fn find_place(list: &[u8], plen: usize, piece: usize, files: usize) -> Placed
+// The file that has the piece, of all, and the piece in it; or 29.
+fn find_place(list: &[u8], plen: usize, piece: usize, files: usize) -> Result<FilePiece, Refused>
     requires { record_size * files ≤ length list.now }
-    ensures { result ≡ P.place_from list.now plen 0 files piece }
+    ensures { P.placed_of result ≡ P.place_from list.now plen 0 files piece }
 {
     let mut left = piece;
-    let mut i = 0;
-    while i < files {
+    for i in 0..files {
         let n = length_of(list, i);
         let c = piece_count(n, plen);
         if left < c {
-            return Placed {
-                number: 0,
-                file: i as u64,
-                piece: left as u64,
-            };
+            return Ok(FilePiece {
+                file: i,
+                piece: left,
+            });
         }
         left -= c;
-        i += 1;
     }
-    no_place(numbers::NO_SUCH_PART)
+    Err(Refused::NoSuchPart)
+}
+
+fn place_of(list: &[u8], plen: usize, piece: usize) -> Result<FilePiece, Refused>
+    ensures { P.placed_of result ≡ P.place_answer list.now plen piece }
+{
+    list_fits(list, plen)?;
+    find_place(list, plen, piece, list.len() / RECORD)
 }
 
 // Where a piece of the wire stands: 4, 24, 29, or 0, the file and the piece in it.
 pub fn place(list: &[u8], plen: usize, piece: usize) -> Placed
     ensures { result ≡ P.place_answer list.now plen piece }
 {
-    let number = list_number(list, plen);
-    if number != numbers::DONE {
-        return no_place(number);
-    }
-    let files = list.len() / RECORD;
-    find_place(list, plen, piece, files)
+    Placed::from(place_of(list, plen, piece))
 }

@@ -1,7 +1,6 @@
 -- specs/OneRound's two theorems, behind what they stand on there. They stand here, and not there, so that an edit of the order is refused.
 -- Assumes nothing.
-use Rattle.std.specs.Prelude.{ℕ, ◌≤◌}
-use mathlib.Core.List.{List}
+use Rattle.std.specs.Prelude.{ℕ, ◌≤◌, List}
 use Rattle.std.proofs.Math.ListN.{length}
 use Rattle.octets.specs.Octets.{Octets, zero_hash}
 use Rattle.octets.specs.OctetsLaws.{zero_octets}

@@ -5,8 +5,7 @@
 use Rattle.std.specs.Prelude.{◌≡◌, true, false, List, ◌++◌, ◌↔◌, ◌⊎◌, ℕ, suc, ◌+◌, ◌-◌, ◌*◌, ◌/◌, ◌^◌, ◌≤◌, ◌<◌, length, replicate, ltb}
 use Rattle.std.proofs.Math.Path.{refl}
 use Rattle.std.proofs.Math.Logic.{inl, inr}
-use Rattle.std.proofs.Common.{arith}
-use borrow.Author.Tests.{lt-ltb, le-ltb, ltb-false}
+use Rattle.std.proofs.Common.{arith, lt-ltb, le-ltb, ltb-false}
 use Rattle.numbers.specs.Numbers.{done, refused, no_message, other_root, rule_broken, wrong_size, wrong_padding, no_anchor, differs, conflict, unusable, facts_out_of_range, no_room, not_held}
 use Rattle.limits.specs.Limits.{longest_hashed}
 use Rattle.octets.specs.Octets.{Octets}

@@ -1,7 +1,7 @@
 -- A message that is taken: two leaves below the root of a file of two blocks, on a store opened for it. So what the theorems say of taken
 -- messages is said of something.
 -- Assumes nothing.
-use Rattle.std.specs.Prelude.{◌≡◌, true, List, [], ◌∷◌, ◌++◌, ℕ, ◌≤◌, ◌<◌, length}
+use Rattle.std.specs.Prelude.{◌≡◌, true, List, [], ◌∷◌, ◌++◌, ℕ, ◌≤◌, length}
 use Rattle.std.proofs.Math.Path.{refl, ap, ap₂, sym}
 use Rattle.std.proofs.Common.{◌∙◌, lit<, lit≤}
 use Rattle.octets.specs.Octets.{Octets, number_at}

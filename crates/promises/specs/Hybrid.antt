@@ -1,10 +1,9 @@
 -- 02, request 12, of a piece that is judged: "A piece of a hybrid is right only if both hashes agree; the v2 answer comes first, then 7 for the v1
 -- half." Each number of the call is in EachNumber, that the piece is the file's in FromRootToBlock, what a mark promises in Marks.
 -- Assumes nothing.
-use Rattle.std.specs.Prelude.{◌≡◌, true, List, ◌++◌, ◌↔◌, ◌⊎◌, replicate}
+use Rattle.std.specs.Prelude.{◌≡◌, true, List, ◌++◌, ◌↔◌, ◌⊎◌, replicate, ℕ, ◌+◌, ◌-◌, ◌*◌, ◌≤◌, ◌<◌, min}
 use Rattle.std.proofs.Math.Path.{ap, ap₂}
 use Rattle.std.proofs.Common.{sym, ◌∙◌, inr, mul_comm, arith}
-use Prim.Native.Nat.{ℕ, ◌+◌, ◌-◌, ◌*◌, ◌≤◌, ◌<◌, min}
 use Rattle.std.proofs.Math.ListN.{length}
 use Rattle.octets.specs.Octets.{cut}
 use Rattle.numbers.specs.Numbers.{differs}

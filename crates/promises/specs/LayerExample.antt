@@ -1,12 +1,10 @@
 -- A layer that is loaded: the two leaves of a file of two blocks, each a piece, on a store opened for it. So what the theorems say of loaded
 -- layers is said of something.
 -- Assumes nothing.
-use Rattle.std.specs.Prelude.{◌≡◌, List, ◌++◌, ℕ, ◌+◌, ◌-◌, ◌/◌, ◌≤◌, ◌<◌, length, take}
+use Rattle.std.specs.Prelude.{◌≡◌, List, ◌++◌, ℕ, ◌-◌, ◌/◌, ◌≤◌, length, take}
 use Rattle.std.proofs.Math.Path.{ap, sym}
-use Rattle.std.proofs.Common.{◌∙◌, subst, length-append, take_at, drop_at, lit<, lit≤}
-use native.Mathlib.Omega.{arith}
+use Rattle.std.proofs.Common.{◌∙◌, subst, length-append, take_at, drop_at, lit<, lit≤, arith, eqb-true}
 use Rattle.std.proofs.Math.Seq.{take_all}
-use borrow.Author.Tests.{eqb-true}
 use Rattle.octets.specs.Octets.{Octets, cut}
 use Rattle.sha256.specs.Sha256.{pair_hash}
 use Rattle.sha256.specs.Sha256Laws.{pair_octets}

@@ -1,12 +1,9 @@
 -- A hashes message by its parts: root, the sixteen bytes of the four numbers, the hashes; and such a message offered to a store. The
 -- examples are made of these.
 -- Assumes nothing.
-use Rattle.std.specs.Prelude.{◌≡◌, true, get_or, drop}
+use Rattle.std.specs.Prelude.{◌≡◌, true, get_or, drop, List, [], ◌∷◌, ◌++◌, ℕ, suc, ◌+◌, ◌≤◌, ◌<◌}
 use Rattle.std.proofs.Math.Path.{ap, ap₂}
-use Rattle.std.proofs.Common.{sym, ◌∙◌, get_or-append-add, lit≤, le-leb}
-use mathlib.Core.List.{List, [], ◌∷◌, ◌++◌, append_assoc, append-nil}
-use Prim.Native.Nat.{ℕ, suc, ◌+◌, ◌≤◌, ◌<◌}
-use native.Mathlib.Omega.{arith}
+use Rattle.std.proofs.Common.{sym, ◌∙◌, get_or-append-add, lit≤, le-leb, append_assoc, append-nil, arith}
 use Rattle.std.proofs.Math.ListN.{length, take, length-append, get_or-append}
 use Rattle.std.proofs.Math.Seq.{take_at, drop-append-add}
 use Rattle.octets.specs.Octets.{cut, number_at, zero_hash}

@@ -1,16 +1,13 @@
 -- 02, request 14: "One round alone doesn't give this, because a message without an anchor is dropped.": the two messages of 01's session on
 -- B=5, (0,0,4,1) and (2,0,2,0), offered once each in both orders. One store holds what the other lacks, and no pair is shown.
 -- Assumes nothing.
-use Rattle.std.specs.Prelude.{◌≡◌, false, ◌↔◌, ◌⊎◌, ℕ, ◌+◌, ◌*◌, ◌≤◌, ◌<◌, eqb}
+use Rattle.std.specs.Prelude.{◌≡◌, false, ◌↔◌, ◌⊎◌, ℕ, ◌+◌, ◌*◌, ◌≤◌, ◌<◌, eqb, List, [], ◌∷◌, ◌++◌}
 use Rattle.std.proofs.Math.Path.{refl, ap, ap₂, sym}
-use Rattle.std.proofs.Common.{◌∙◌, subst, length-append, lit<, lit≤}
+use Rattle.std.proofs.Common.{◌∙◌, subst, length-append, lit<, lit≤, arith, le-leb, ne_eqb}
 use Rattle.std.proofs.Math.Bool.{true}
 use Rattle.std.proofs.lemmas.Bool.{false≢true}
-use mathlib.Core.List.{List, [], ◌∷◌, ◌++◌}
 use Rattle.std.proofs.Math.Logic.{inl, inr}
-use native.Mathlib.Omega.{arith}
 use Rattle.std.proofs.Math.ListN.{length}
-use borrow.Author.Tests.{le-leb, ne_eqb}
 use Rattle.octets.specs.Octets.{Octets, cut, be, number_at, zero_hash}
 use Rattle.octets.specs.OctetsLaws.{same_eq, be_octets, append_octets, cut_cut, cut_whole, cut_append_left, cut_append_right, one_byte}
 use Rattle.numbers.specs.Numbers.{no_anchor}

@@ -3,11 +3,11 @@
 -- Cuttings, and crates/history, file Histories.)
 -- Assumes nothing.
 use Rattle.std.specs.Prelude.{◌≡◌, refl, true, false, List, ◌↔◌, ℕ, suc, ◌+◌, ◌*◌, ◌%◌, ◌^◌, ◌≤◌, ◌<◌, length, replicate, eqb, ltb, leb}
-use Rattle.std.proofs.Common.{ap, sym, ◌∙◌, inl, inr, arith}
+use Rattle.std.proofs.Common.{ap, sym, ◌∙◌, inl, inr, arith, lt-ltb, le-ltb, ltb-true, ltb-false, le-leb, leb-true, leb-false, eq-eqb, eqb-true}
 use Rattle.std.proofs.Math.Bool.{and-eq-true_iff}
 use Rattle.std.proofs.Math.Decide.{dec_le, dec_lt}
 use Rattle.std.proofs.lemmas.List.{length-replicate}
-use borrow.Author.Tests.{lt-ltb, le-ltb, ltb-true, ltb-false, le-leb, lt-leb, leb-true, leb-false, eq-eqb, eqb-true}
+use Rattle.std.proofs.lemmas.Bool.{lt-leb}
 use Rattle.octets.specs.Octets.{zero_hash}
 use Rattle.numbers.specs.Numbers.{wrong_size, unusable, facts_out_of_range, no_room, InTable}
 use Rattle.numbers.specs.Chain.{Chain, last, test, fault, decided, exactly_of, in_table_of}

@@ -1,9 +1,8 @@
 -- What the theorems about our replies ask for can be met: a store of ours serves a request with 0, and another store takes the reply.
 -- Assumes nothing.
-use Rattle.std.specs.Prelude.{◌≡◌, refl, true, ℕ, ◌+◌, ◌-◌, ◌/◌, ◌^◌, ◌≤◌, length, replicate}
+use Rattle.std.specs.Prelude.{◌≡◌, refl, true, ℕ, ◌+◌, ◌-◌, ◌/◌, ◌^◌, ◌≤◌, length, replicate, List, [], ◌∷◌, ◌++◌}
 use Rattle.std.proofs.Math.Path.{ap, ap₂, sym}
-use Rattle.std.proofs.Common.{◌∙◌, subst, arith, length-append, lit≤}
-use mathlib.Core.List.{List, [], ◌∷◌, ◌++◌, append_assoc, append-nil}
+use Rattle.std.proofs.Common.{◌∙◌, subst, arith, length-append, lit≤, append_assoc, append-nil}
 use Rattle.octets.specs.Octets.{Octets, cut, same, zero_hash}
 use Rattle.octets.specs.OctetsLaws.{zero_octets, same_eq, cut_whole, cut_append_left}
 use Rattle.numbers.specs.declared.Answer.{Answer}

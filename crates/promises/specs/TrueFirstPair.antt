@@ -1,9 +1,8 @@
 -- 01, "Worked by hand": a true (0,0,2,2) on a fresh store of B=5 exists, whatever its four hashes: it is taken, with 6 positions new.
 -- Assumes nothing.
-use Rattle.std.specs.Prelude.{◌≡◌, true, ℕ, ◌+◌, ◌≤◌, ◌<◌, length, eqb}
+use Rattle.std.specs.Prelude.{◌≡◌, true, ℕ, ◌+◌, ◌≤◌, ◌<◌, length, eqb, List, [], ◌∷◌, ◌++◌}
 use Rattle.std.proofs.Math.Path.{refl, ap, ap₂, sym}
 use Rattle.std.proofs.Common.{◌∙◌, arith, length-append, lit<, lit≤}
-use mathlib.Core.List.{List, [], ◌∷◌, ◌++◌}
 use Rattle.octets.specs.Octets.{cut, number_at}
 use Rattle.octets.specs.OctetsLaws.{same_eq, cut_append_left, cut_append_right, cut_whole}
 use Rattle.sha256.specs.Sha256.{pair_hash}

@@ -4,18 +4,14 @@
 ghost use Rattle.std.specs.Prelude.{◌≤◌, length};
 ghost use Rattle.session.specs.Session as S;
 
-use session::{Line, Progress};
+use numbers::Answer;
+use session::Progress;
 use std::io::{Read, Write};
 
 // The number, a space, the count. A line that cannot be written is passed over.
-fn show<W: Write>(out: &mut W, line: Line) {
-    if let Line::Answered(answer) = line {
-        let number = answer.number;
-        let count = answer.count;
-        match writeln!(out, "{number} {count}") {
-            Ok(()) => {}
-            Err(_) => {}
-        }
+fn show<W: Write>(out: &mut W, line: Option<Answer>) {
+    if let Some(answer) = line {
+        let _ = writeln!(out, "{} {}", answer.number, answer.count);
     }
 }
 
@@ -31,13 +27,12 @@ fn pass<W: Write>(
     ensures { S.Due result.phase result.at }
 {
     let mut q = progress;
-    let mut at: usize = 0;
+    let mut at = 0;
+    // No range: a line ends the bytes that are taken at once.
     while at < piece.len() {
         let part = session::take_piece(q, store, room, &piece[at..]);
-        let line = part.line;
-        show(out, line);
-        let next = part.progress;
-        q = next;
+        show(out, part.line);
+        q = part.progress;
         at += part.used;
     }
     q
@@ -65,6 +60,7 @@ fn pass_all<R: Read, W: Write>(
 }
 
 fn main(rt: HostRuntime) {
+    // Arrays and no Vec: a session begins without asking for memory.
     let mut s = session::new_store();
     let mut room = [0u8; session::MAX_MESSAGE];
     let mut buf = [0u8; 65536];
@@ -72,8 +68,5 @@ fn main(rt: HostRuntime) {
     let mut out = rt.stdout();
     let last = pass_all(&mut input, &mut out, &mut s, &mut room, &mut buf);
     show(&mut out, session::end(last));
-    match out.write_all(b"end\n") {
-        Ok(()) => {}
-        Err(_) => {}
-    }
+    let _ = out.write_all(b"end\n");
 }

@@ -1,10 +1,8 @@
 -- Laws of the message schedule, of its sums with the round words, and of the rounds.
 -- Assumes nothing.
-use Rattle.std.specs.Prelude.{◌≡◌, List, length, get_or, set}
+use Rattle.std.specs.Prelude.{◌≡◌, List, length, get_or, set, ℕ, zero, suc, ◌+◌, ◌-◌, ◌%◌, ◌^◌, ◌<◌}
 use Rattle.std.proofs.Math.Path.{ap}
-use Rattle.std.proofs.Common.{sym, subst, ◌∙◌, length-append, take_all, take-suc-set, get_or-take}
-use Prim.Native.Nat.{ℕ, zero, suc, ◌+◌, ◌-◌, ◌%◌, ◌^◌, ◌<◌}
-use native.Mathlib.Omega.{arith}
+use Rattle.std.proofs.Common.{sym, subst, ◌∙◌, length-append, take_all, take-suc-set, get_or-take, arith}
 use Rattle.std.proofs.Math.Numerals.{add-one}
 use Rattle.std.proofs.Math.ListN.{take, length-set}
 use Rattle.rounds.specs.declared.State.{State}

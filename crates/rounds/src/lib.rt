@@ -64,10 +64,8 @@ fn load(w: &mut [u32; 64], bytes: &[u8], at: usize)
     requires { (at + 64 ≤ length bytes.now) × (length w.old ≡ 64) }
     ensures { (length w.new ≡ 64) × (take 16 w.new ≡ words 16 (take 64 (drop at bytes.now))) }
 {
-    let mut i: usize = 0;
-    while i < 16 {
+    for i in 0..16 {
         w[i] = word(bytes, at + i * 4);
-        i += 1;
     }
 }
 
@@ -99,10 +97,8 @@ fn fill(w: &mut [u32; 64], bytes: &[u8], at: usize)
     ensures { w.new ≡ S.schedule 48 (take 64 (drop at bytes.now)) }
 {
     load(&mut *w, bytes, at);
-    let mut i: usize = 0;
-    while i <= 44 {
-        grow4(&mut *w, i);
-        i += 4;
+    for i in 0..12 {
+        grow4(&mut *w, 4 * i);
     }
 }
 
@@ -111,10 +107,8 @@ fn add_round_words(w: &mut [u32; 64], k: &[u32; 64])
     requires { length w.old ≡ 64 }
     ensures { w.new ≡ sums 64 k.now w.old }
 {
-    let mut i: usize = 0;
-    while i < 64 {
+    for i in 0..64 {
         w[i] = add(k[i], w[i]);
-        i += 1;
     }
 }
 
@@ -154,10 +148,8 @@ pub fn compress_sums(state: State, sums: &[u32; 64]) -> State
     ensures { result ≡ S.plus state (rounds_by sums.now 64 state) }
 {
     let mut t = state;
-    let mut i: usize = 0;
-    while i <= 48 {
-        t = step16(t, sums, i);
-        i += 16;
+    for i in 0..4 {
+        t = step16(t, sums, 16 * i);
     }
     sum(state, t)
 }

@@ -9,6 +9,11 @@ pub record Stage (m : List ℕ) (i : ℕ) (w : List ℕ) : Type 0 where
   pub size : length w ≡ 80
   pub filled : take (16 + i) w ≡ schedule i m
 
+-- round i is one of those by the function that gives what P says of it, with the word k
+pub record By (P : ℕ → ℕ → ℕ → ℕ → Type 0) (i k : ℕ) : Type 0 where
+  pub value : (x y z r : ℕ) → P x y z r → r ≡ f i x y z
+  pub word : k ≡ K i
+
 -- round i is one of those by Parity, with the word k
 pub record ByParity (i k : ℕ) : Type 0 where
   pub parity : (x y z : ℕ) → f i x y z ≡ Parity x y z

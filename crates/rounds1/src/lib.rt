@@ -4,7 +4,7 @@
 ghost use Rattle.std.specs.Prelude.{◌≡◌, ℕ, ◌+◌, ◌*◌, ◌<◌, ◌≤◌, List, length, take, drop, set};
 ghost use Rattle.bits.specs.Parsing.{words};
 ghost use Rattle.rounds1.specs.Block as S;
-ghost use Rattle.rounds1.specs.Stage.{Stage, ByParity};
+ghost use Rattle.rounds1.specs.Stage.{Stage, By};
 ghost use Rattle.rounds1.specs.declared.Five as D;
 
 use bits::{add, ch, maj, parity, rotl, word};
@@ -49,10 +49,8 @@ fn load(w: &mut [u32; 80], bytes: &[u8], at: usize)
     requires { (at + 64 ≤ length bytes.now) × (length w.old ≡ 80) }
     ensures { (length w.new ≡ 80) × (take 16 w.new ≡ words 16 (take 64 (drop at bytes.now))) }
 {
-    let mut i: usize = 0;
-    while i < 16 {
+    for i in 0..16 {
         w[i] = word(bytes, at + i * 4);
-        i += 1;
     }
 }
 
@@ -81,107 +79,54 @@ fn fill(w: &mut [u32; 80], bytes: &[u8], at: usize)
     ensures { w.new ≡ S.schedule 64 (take 64 (drop at bytes.now)) }
 {
     load(&mut *w, bytes, at);
-    let mut i: usize = 0;
-    while i <= 60 {
-        grow4(&mut *w, i);
-        i += 4;
+    for i in 0..16 {
+        grow4(&mut *w, 4 * i);
     }
 }
 
-// Round i, one of the first twenty.
-fn by_choice(s: Five, w: &[u32; 80], i: usize) -> Five
-    requires { i < 20 }
+// Round i, by its function and its word k.
+fn step<F: Fn(u32, u32, u32) -> u32>(s: Five, w: &[u32; 80], function: &F, k: u32, i: usize) -> Five
+    requires called { F.IsAlwaysCallable function.now }
+    requires by { (i < 80) × By (F.post function.now) i k }
     ensures { (z : D.Five) → s ≡ S.rounds w.now i z → result ≡ S.rounds w.now (i + 1) z }
 {
-    turn(s, ch(s.b, s.c, s.d), 0x5a82_7999, w[i])
-}
-
-// Round i, one of the second or last twenty, with their word k.
-fn by_parity(s: Five, w: &[u32; 80], k: u32, i: usize) -> Five
-    requires { (i < 80) × ByParity i k }
-    ensures { (z : D.Five) → s ≡ S.rounds w.now i z → result ≡ S.rounds w.now (i + 1) z }
-{
-    turn(s, parity(s.b, s.c, s.d), k, w[i])
-}
-
-// Round i, one of the third twenty.
-fn by_majority(s: Five, w: &[u32; 80], i: usize) -> Five
-    requires { (40 ≤ i) × (i < 60) }
-    ensures { (z : D.Five) → s ≡ S.rounds w.now i z → result ≡ S.rounds w.now (i + 1) z }
-{
-    turn(s, maj(s.b, s.c, s.d), 0x8f1b_bcdc, w[i])
+    turn(s, function(s.b, s.c, s.d), k, w[i])
 }
 
 // Five such rounds bring each word back to its place.
-fn choice5(s: Five, w: &[u32; 80], i: usize) -> Five
-    requires { i ≤ 15 }
+fn step5<F: Fn(u32, u32, u32) -> u32>(
+    s: Five,
+    w: &[u32; 80],
+    function: &F,
+    k: u32,
+    i: usize,
+) -> Five
+    requires called { F.IsAlwaysCallable function.now }
+    requires by { (i ≤ 75) × ((j : ℕ) → i ≤ j → j < i + 5 → By (F.post function.now) j k) }
     ensures { (z : D.Five) → s ≡ S.rounds w.now i z → result ≡ S.rounds w.now (i + 5) z }
 {
-    let s1 = by_choice(s, w, i);
-    let s2 = by_choice(s1, w, i + 1);
-    let s3 = by_choice(s2, w, i + 2);
-    let s4 = by_choice(s3, w, i + 3);
-    by_choice(s4, w, i + 4)
+    let s1 = step(s, w, function, k, i);
+    let s2 = step(s1, w, function, k, i + 1);
+    let s3 = step(s2, w, function, k, i + 2);
+    let s4 = step(s3, w, function, k, i + 3);
+    step(s4, w, function, k, i + 4)
 }
 
-fn parity5(s: Five, w: &[u32; 80], k: u32, i: usize) -> Five
-    requires { (i ≤ 75) × ((j : ℕ) → i ≤ j → j < i + 5 → ByParity j k) }
-    ensures { (z : D.Five) → s ≡ S.rounds w.now i z → result ≡ S.rounds w.now (i + 5) z }
-{
-    let s1 = by_parity(s, w, k, i);
-    let s2 = by_parity(s1, w, k, i + 1);
-    let s3 = by_parity(s2, w, k, i + 2);
-    let s4 = by_parity(s3, w, k, i + 3);
-    by_parity(s4, w, k, i + 4)
-}
-
-fn majority5(s: Five, w: &[u32; 80], i: usize) -> Five
-    requires { (40 ≤ i) × (i ≤ 55) }
-    ensures { (z : D.Five) → s ≡ S.rounds w.now i z → result ≡ S.rounds w.now (i + 5) z }
-{
-    let s1 = by_majority(s, w, i);
-    let s2 = by_majority(s1, w, i + 1);
-    let s3 = by_majority(s2, w, i + 2);
-    let s4 = by_majority(s3, w, i + 3);
-    by_majority(s4, w, i + 4)
-}
-
-// The first twenty rounds.
-fn choices(st: Five, w: &[u32; 80]) -> Five
-    ensures { result ≡ S.rounds w.now 20 st }
-{
-    let mut t = st;
-    let mut i: usize = 0;
-    while i <= 15 {
-        t = choice5(t, w, i);
-        i += 5;
-    }
-    t
-}
-
-// Twenty rounds by parity, from `first` on.
-fn parities(st: Five, w: &[u32; 80], k: u32, first: usize) -> Five
-    requires { (first ≤ 60) × ((j : ℕ) → first ≤ j → j < first + 20 → ByParity j k) }
+// Twenty rounds by one function, from `first` on.
+fn twenty<F: Fn(u32, u32, u32) -> u32>(
+    st: Five,
+    w: &[u32; 80],
+    function: &F,
+    k: u32,
+    first: usize,
+) -> Five
+    requires called { F.IsAlwaysCallable function.now }
+    requires by { (first ≤ 60) × ((j : ℕ) → first ≤ j → j < first + 20 → By (F.post function.now) j k) }
     ensures { (z : D.Five) → st ≡ S.rounds w.now first z → result ≡ S.rounds w.now (first + 20) z }
 {
     let mut t = st;
-    let mut i: usize = 0;
-    while i <= 15 {
-        t = parity5(t, w, k, first + i);
-        i += 5;
-    }
-    t
-}
-
-// The third twenty rounds.
-fn majorities(st: Five, w: &[u32; 80]) -> Five
-    ensures { (z : D.Five) → st ≡ S.rounds w.now 40 z → result ≡ S.rounds w.now 60 z }
-{
-    let mut t = st;
-    let mut i: usize = 40;
-    while i <= 55 {
-        t = majority5(t, w, i);
-        i += 5;
+    for i in 0..4 {
+        t = step5(t, w, function, k, first + 5 * i);
     }
     t
 }
@@ -193,9 +138,9 @@ pub fn compress(state: Five, bytes: &[u8], at: usize) -> Five
 {
     let mut w = [0u32; 80];
     fill(&mut w, bytes, at);
-    let t20 = choices(state, &w);
-    let t40 = parities(t20, &w, 0x6ed9_eba1, 20);
-    let t60 = majorities(t40, &w);
-    let t80 = parities(t60, &w, 0xca62_c1d6, 60);
+    let t20 = twenty(state, &w, &ch, 0x5a82_7999, 0);
+    let t40 = twenty(t20, &w, &parity, 0x6ed9_eba1, 20);
+    let t60 = twenty(t40, &w, &maj, 0x8f1b_bcdc, 40);
+    let t80 = twenty(t60, &w, &parity, 0xca62_c1d6, 60);
     sum(state, t80)
 }

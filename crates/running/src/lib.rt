@@ -6,7 +6,7 @@ ghost use Rattle.running.specs.Bursts as B;
 
 use padding::filled;
 use rounds::State;
-use sha256::Hashed;
+use sha256::{Hashed, RoundWords};
 
 // kd_hashing: the words after the whole blocks so far, the bytes past those, how many these are, and how many bytes came in all.
 #[repr(C)]
@@ -95,7 +95,7 @@ pub fn absorb(hashing: Hashing, burst: &[u8]) -> Hashing
     let k = constants::round_words();
     let t = rounds::compress(from_words(words), &k, &first, 0);
     let rest = &burst[room..];
-    let u = sha256::whole_blocks(t, &k, rest);
+    let u = padding::whole_blocks(&RoundWords { k: &k }, t, rest);
     let at = rest.len() - rest.len() % 64;
     let left = &rest[at..];
     let waiting = filled(old, 0, left);
@@ -116,7 +116,8 @@ pub fn hash_of(hashing: Hashing) -> [u8; 32]
     let n = (hashing.total % 64) as usize;
     let words = hashing.words;
     let tail = hashing.tail;
-    sha256::digest(sha256::finish(from_words(words), &k, &tail[0..n], hashing.total))
+    let state = from_words(words);
+    sha256::digest(padding::finish(&RoundWords { k: &k }, state, &tail[0..n], hashing.total))
 }
 
 // Takes a `burst`: 9 for counts that no bursts give, 4 past the longest string that has a hash, else 0 and the state after it.

@@ -1,15 +1,9 @@
 -- What each function answers, from what its callees ensure and the tests it took: every answer is one case of the definition.
-use mathlib.Core.Path.{◌≡◌, refl, ap, ap₂, sym, ◌∙◌}
-use mathlib.Core.List.{List}
-use mathlib.Core.Bool.{Bool, true, false, cond, ◌&&◌, and-eq-true_iff, and-false}
-use Prim.Native.Nat.{ℕ, zero, suc, ◌+◌, ◌-◌, ◌*◌, ◌/◌, ◌%◌, ◌^◌, ◌≤◌, ◌<◌}
-use native.Mathlib.Omega.{arith}
-use native.Mathlib.Decide.{ℕ_discrete}
-use native.Mathlib.Numerals.{add-one}
-use lib.ListN.{length, get_or}
-use lib.Dec.{eqb, leb, ltb}
-use lib.Pow.{pow_mono}
-use borrow.Author.Tests.{eq-eqb, ne_eqb, eqb-true, lt-ltb, le-ltb, le-leb, lt-leb}
+use Rattle.std.specs.Prelude.{◌≡◌, refl, List, Bool, true, false, cond, ◌&&◌, ℕ, zero, suc, ◌+◌, ◌-◌, ◌*◌, ◌/◌, ◌%◌, ◌^◌, ◌≤◌, ◌<◌, length, get_or, eqb, leb, ltb}
+use Rattle.std.proofs.Common.{ap, ap₂, sym, ◌∙◌, arith, add-one, pow_mono, eq-eqb, ne_eqb, eqb-true, lt-ltb, le-ltb, le-leb}
+use Rattle.std.proofs.Math.Bool.{and-eq-true_iff, and-false}
+use Rattle.std.proofs.Math.Decide.{ℕ_discrete}
+use Rattle.std.proofs.lemmas.Bool.{lt-leb}
 use Rattle.octets.specs.Octets.{same}
 use Rattle.sha256.specs.Sha256.{pair_hash}
 use Rattle.tree.specs.Geometry.{covering}
@@ -35,7 +29,7 @@ use Rattle.cells.specs.Cells.{held_at, hash_at}
 use Rattle.saved.specs.Saved.{entries_in, with_place, marks_set, loaded, load_answer, load_after}
 use Rattle.saved.proofs.LoadLaws.{put_next, marks_set_next, marks_set_same, mark_fits, Opens, opening_says, first, first_room, second, second_facts, second_marks}
 use Rattle.cells.specs.Cells.{Room, put}
-use Rattle.cells.specs.Entries.{put_all}
+use Rattle.cells.specs.Entries.{one_if, put_all}
 use Rattle.marks.specs.Marks.{marked, marks_start, marks_put}
 use Rattle.marks.specs.MarksLaws.{mark_in}
 use Rattle.tree.specs.Geometry.{node_number}
@@ -342,11 +336,9 @@ pub root_cut : (b r : List ℕ) → r ≡ Rattle.octets.specs.Octets.cut b 13 32
 unfolding root_in
 root_cut b r e = e
 
-pub two_yes : (k : ℕ) (t : Bool) → t ≡ true → k + 2 ≡ cond t (k + 2) k
-two_yes k t e = sym (rw e)
-
-pub two_no : (k : ℕ) (t : Bool) → t ≡ false → k ≡ cond t (k + 2) k
-two_no k t e = sym (rw e)
+pub two_from : (k : ℕ) (t : Bool) (x : ℕ) → x ≡ one_if t → k + 2 * x ≡ cond t (k + 2) k
+two_from k true x e = omega (arith, e)
+two_from k false x e = omega (arith, e)
 
 -- ---- the opening
 
@@ -550,10 +542,10 @@ module _ (s b : List ℕ) (z : opening_number (length s) b ≡ 0) (formed_here :
           omega (arith, form_here.size),
         )
 
-        pub all_written : (v : List ℕ) (r : Answer) → v ≡ marks_set u b (45 + 41 * p) m → r ≡ done p → (r ≡ done (place_count b)) × (v ≡ loaded s b)
+        pub all_written : (v : List ℕ) → v ≡ marks_set u b (45 + 41 * p) m → (p ≡ place_count b) × (v ≡ loaded s b)
         unfolding loaded first second
-        all_written v r ev er2 = (
-          er2 ∙ ap done eq,
+        all_written v ev = (
+          eq,
           ev ∙ ap₂ (λ (x : List ℕ) (y : ℕ). marks_set x b (45 + 41 * y) m) put_second eq ∙ ap (marks_set (second s b opens_here form_here) b (marks_from b)) em,
         )
 

@@ -1,7 +1,7 @@
 -- What a host that loses power can rely on: a saved store that was cut short is never loaded or repaired; and neither a store is taken for a saved
 -- one nor a saved one for a store.
 -- Assumes nothing.
-use Rattle.std.specs.Prelude.{◌≡◌, refl, Bool, true, false, List, ℕ, zero, suc, ◌+◌, ◌-◌, ◌<◌, length, get_or, take, eqb, leb}
+use Rattle.std.specs.Prelude.{◌≡◌, refl, Bool, true, false, List, ℕ, zero, suc, ◌+◌, ◌<◌, length, get_or, take, eqb, leb}
 use Rattle.std.proofs.Math.Bool.{and-eq-true_iff}
 use Rattle.std.proofs.Common.{arith, eqb-true, ne_eqb}
 use Rattle.octets.specs.Octets.{number_at}

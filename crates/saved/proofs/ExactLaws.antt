@@ -1,12 +1,9 @@
 -- Bytes of the form are the bytes of what they say: what is read is written again byte for byte.
 -- Assumes nothing.
-use Rattle.std.specs.Prelude.{◌≡◌, true, take, drop, eqb, leb}
+use Rattle.std.specs.Prelude.{◌≡◌, true, take, drop, eqb, leb, List, [], ◌∷◌, ◌++◌, ℕ, zero, suc, ◌+◌, ◌-◌, ◌*◌, ◌≤◌, ◌<◌}
 use Rattle.std.proofs.Math.Path.{refl, ap, ap₂, sym}
-use Rattle.std.proofs.Common.{◌∙◌, length-append, take-add, drop-drop, eqb-true, leb-true}
+use Rattle.std.proofs.Common.{◌∙◌, length-append, take-add, drop-drop, eqb-true, leb-true, append_assoc, append-nil, arith}
 use Rattle.std.proofs.Math.Bool.{and-eq-true_iff}
-use mathlib.Core.List.{List, [], ◌∷◌, ◌++◌, append_assoc, append-nil}
-use Prim.Native.Nat.{ℕ, zero, suc, ◌+◌, ◌-◌, ◌*◌, ◌≤◌, ◌<◌}
-use native.Mathlib.Omega.{arith}
 use Rattle.std.proofs.Math.ListN.{length, get_or}
 use Rattle.std.proofs.Math.Seq.{ext_get_or}
 use Rattle.octets.specs.Octets.{cut, be, number_at}

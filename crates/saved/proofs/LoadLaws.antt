@@ -1,12 +1,10 @@
 -- What a loaded store is: usable, with the facts that the bytes name; it holds the positions that they name, and has the marks.
 -- Assumes nothing.
-use Rattle.std.specs.Prelude.{◌≡◌, refl, Bool, ◌&&◌, List, length, get_or, eqb, leb}
-use Rattle.std.proofs.Common.{ap, ap₂, sym, ◌∙◌, arith}
+use Rattle.std.specs.Prelude.{◌≡◌, refl, Bool, ◌&&◌, List, length, get_or, eqb, leb, ℕ, zero, suc, ◌+◌, ◌*◌, ◌^◌, ◌≤◌, ◌<◌}
+use Rattle.std.proofs.Common.{ap, ap₂, sym, ◌∙◌, arith, leb-true}
 use Rattle.std.proofs.Math.Bool.{true, false, and-eq-true_iff}
 use Rattle.std.proofs.Math.Logic.{inl, inr}
-use Prim.Native.Nat.{ℕ, zero, suc, ◌+◌, ◌-◌, ◌*◌, ◌^◌, ◌≤◌, ◌<◌}
 use Rattle.std.proofs.Math.Decide.{ℕ_discrete}
-use borrow.Author.Tests.{leb-true}
 use Rattle.octets.specs.OctetsLaws.{cut_length}
 use Rattle.tree.specs.Geometry.{node_number}
 use Rattle.tree.proofs.GeometryLaws.{node_number_range, node_number_distinct}

@@ -1,11 +1,7 @@
 -- What is worked out ahead of the pass over the families: the padding values, and the hashes of eight pairs.
 -- Assumes nothing.
-use mathlib.Core.Path.{◌≡◌, refl, ap, ap₂, sym, ◌∙◌}
-use mathlib.Core.List.{List}
-use mathlib.Core.Bool.{Bool, true, false, cond}
-use Prim.Native.Nat.{ℕ, zero, suc, ◌+◌, ◌-◌, ◌*◌, ◌%◌, ◌≤◌, ◌<◌}
-use native.Mathlib.Omega.{arith}
-use lib.ListN.{length}
+use Rattle.std.specs.Prelude.{◌≡◌, refl, List, Bool, true, false, cond, ℕ, zero, suc, ◌+◌, ◌-◌, ◌*◌, ◌%◌, ◌≤◌, ◌<◌, length}
+use Rattle.std.proofs.Common.{ap, ap₂, sym, ◌∙◌, arith}
 use Rattle.octets.specs.Octets.{cut, pasted, same}
 use Rattle.octets.specs.OctetsLaws.{cut_length, cut_cut, cut_pasted_same, pasted_length, zero_octets}
 use Rattle.sha256.specs.Sha256.{pair_hash}

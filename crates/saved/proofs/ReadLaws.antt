@@ -1,15 +1,12 @@
 -- WHAT IS WRITTEN IS READ: the bytes of an ordered value have the form, and say that value.
 -- Assumes nothing.
-use Rattle.std.specs.Prelude.{◌≡◌, true, ◌&&◌, ℕ, suc, ◌+◌, ◌-◌, ◌*◌, ◌^◌, ◌≤◌, ◌<◌, take, leb, ltb}
+use Rattle.std.specs.Prelude.{◌≡◌, true, ◌&&◌, ℕ, suc, ◌+◌, ◌-◌, ◌*◌, ◌^◌, ◌≤◌, ◌<◌, take, leb, ltb, List, [], ◌∷◌, ◌++◌}
 use Rattle.std.proofs.Math.Path.{refl, ap, ap₂, sym}
-use Rattle.std.proofs.Common.{◌∙◌, get_or-append-add, pow_mono}
+use Rattle.std.proofs.Common.{◌∙◌, get_or-append-add, pow_mono, append_assoc, append-nil, arith, eq-eqb, le-leb, lt-ltb}
 use Rattle.std.proofs.Math.Bool.{and-eq-true_iff}
-use mathlib.Core.List.{List, [], ◌∷◌, ◌++◌, append_assoc, append-nil}
-use native.Mathlib.Omega.{arith}
 use Rattle.std.proofs.Math.ListN.{length, get_or, length-append}
 use Rattle.std.proofs.Math.Seq.{take-append_seam}
 use Rattle.std.proofs.Math.Dec.{eqb}
-use borrow.Author.Tests.{eq-eqb, le-leb, lt-ltb}
 use Rattle.limits.specs.Limits.{tallest_tree}
 use Rattle.octets.specs.Octets.{cut, be, number_at}
 use Rattle.octets.specs.OctetsLaws.{number_behind, cut_behind, be_size, number_first}

@@ -1,13 +1,11 @@
 -- The counts beside a repair: the positions then held, and those that are not, of all that the bytes name.
 -- Assumes nothing.
-use Rattle.std.specs.Prelude.{◌≡◌, Bool, true, false, List}
+use Rattle.std.specs.Prelude.{◌≡◌, Bool, true, false, List, ℕ, zero, suc, ◌+◌, ◌-◌, ◌*◌, ◌≤◌, ◌<◌}
 use Rattle.std.proofs.Math.Path.{refl, ap}
-use Rattle.std.proofs.Common.{ap₂, sym, ◌∙◌, arith}
-use Prim.Native.Nat.{ℕ, zero, suc, ◌+◌, ◌-◌, ◌*◌, ◌≤◌, ◌<◌}
+use Rattle.std.proofs.Common.{ap₂, sym, ◌∙◌, arith, ne_eqb}
 use Rattle.std.proofs.Math.Decide.{ℕ_discrete}
 use Rattle.std.proofs.Math.ListN.{length}
 use Rattle.std.proofs.Math.Pow.{pow_pos}
-use borrow.Author.Tests.{ne_eqb}
 use Rattle.octets.specs.OctetsLaws.{cut_length}
 use Rattle.tree.specs.Geometry.{node_number}
 use Rattle.tree.proofs.GeometryLaws.{node_number_range, node_number_distinct, layer_doubles}

@@ -1,14 +1,8 @@
 -- What saving answers and writes, from what the callees ensure and the tests it took: records one behind the other.
-use mathlib.Core.Path.{◌≡◌, refl, ap, ap₂, sym, ◌∙◌}
-use mathlib.Core.List.{List, [], ◌∷◌, ◌++◌, append_assoc, append-nil}
-use mathlib.Core.Bool.{Bool, true, false, cond}
-use Prim.Native.Nat.{ℕ, zero, suc, ◌+◌, ◌-◌, ◌*◌, ◌%◌, ◌^◌, ◌≤◌, ◌<◌}
-use native.Mathlib.Omega.{arith}
-use native.Mathlib.Decide.{ℕ_discrete}
-use native.Mathlib.Numerals.{add-one}
-use lib.ListN.{length, set, length-append, length-set}
-use lib.Dec.{leb}
-use borrow.Author.Tests.{le-leb, lt-leb}
+use Rattle.std.specs.Prelude.{◌≡◌, refl, List, [], ◌∷◌, ◌++◌, Bool, true, false, cond, ℕ, zero, suc, ◌+◌, ◌-◌, ◌*◌, ◌%◌, ◌^◌, ◌≤◌, ◌<◌, length, set, leb}
+use Rattle.std.proofs.Common.{ap, ap₂, sym, ◌∙◌, append_assoc, append-nil, arith, add-one, length-append, length-set, le-leb}
+use Rattle.std.proofs.Math.Decide.{ℕ_discrete}
+use Rattle.std.proofs.lemmas.Bool.{lt-leb}
 use Rattle.octets.specs.Octets.{be, pasted}
 use Rattle.octets.specs.OctetsLaws.{be_octets, cut_length, pasted_append, pasted_length, pasted_none, set_pasted}
 use Rattle.limits.specs.Limits.{tallest_tree}
@@ -18,6 +12,7 @@ use Rattle.tree.specs.Geometry.{node_number}
 use Rattle.tree.proofs.GeometryLaws.{node_number_range, shifted_one}
 use Rattle.cells.specs.Cells.{Room, held_at, hash_at}
 use Rattle.cells.specs.CellsLaws.{hash_length}
+use Rattle.cells.specs.Entries.{one_if}
 use Rattle.store.specs.Store.{usable, file_length, piece_length, facts_root, blocks_of, height_of, positions, Facts}
 use Rattle.store.specs.StoreLaws.{usable_facts, facts_height, facts_leaves}
 use Rattle.marks.specs.Marks.{marks_start, marked_at, marks_put}
@@ -27,11 +22,9 @@ use Rattle.saved.proofs.ExactLaws.{places_append, marks_append}
 use Rattle.saved.proofs.ReadLaws.{marks_size}
 use Rattle.saved.proofs.Answers.{pow_small}
 
-pub one_yes : (k : ℕ) (t : Bool) → t ≡ true → k + 1 ≡ cond t (k + 1) k
-one_yes k t e = sym (rw e)
-
-pub one_no : (k : ℕ) (t : Bool) → t ≡ false → k ≡ cond t (k + 1) k
-one_no k t e = sym (rw e)
+pub one_from : (k : ℕ) (t : Bool) (x : ℕ) → x ≡ one_if t → k + x ≡ cond t (k + 1) k
+one_from k true x e = omega (arith, e)
+one_from k false x e = omega (arith, e)
 
 pub node_below : (h l i n : ℕ) → i < 2 ^ (h - l) → n ≡ node_number h l i → n < positions h
 unfolding positions

@@ -1,6 +1,6 @@
 -- 02, request 13: what is saved of a store, and what saving answers and leaves.
 -- Assumes nothing.
-use Rattle.std.specs.Prelude.{List, [], ◌∷◌, ◌++◌, cond, ◌&&◌, ℕ, zero, suc, ◌+◌, ◌-◌, ◌^◌, length, leb}
+use Rattle.std.specs.Prelude.{List, [], ◌∷◌, ◌++◌, cond, ◌&&◌, ℕ, zero, suc, ◌-◌, ◌^◌, length, leb}
 use Rattle.octets.specs.Octets.{pasted}
 use Rattle.numbers.specs.Numbers.{refused, done, unusable, no_room}
 use Rattle.numbers.specs.declared.Answer.{Answer}

@@ -1,9 +1,11 @@
 -- 02, request 13: what loading and repairing answer and leave.
 -- Assumes nothing.
-use Rattle.std.specs.Prelude.{List, [], ◌++◌, Bool, true, cond, ◌&&◌, ℕ, zero, suc, ◌+◌, ◌-◌, ◌*◌, ◌/◌, ◌^◌, length, eqb, leb, ltb}
+use Rattle.std.specs.Prelude.{List, Result, Ok, Err, [], ◌++◌, Bool, true, cond, ◌&&◌, ℕ, zero, suc, ◌+◌, ◌-◌, ◌*◌, ◌/◌, ◌^◌, length, eqb, leb, ltb}
 use Rattle.octets.specs.Octets.{same}
 use Rattle.numbers.specs.Numbers.{refused, done, unusable, facts_out_of_range, not_saved}
+use Rattle.numbers.specs.Refusals.{number_of}
 use Rattle.numbers.specs.declared.Answer.{Answer}
+use Rattle.numbers.specs.declared.Refused.{Refused}
 use Rattle.saved.specs.declared.repair.Repaired.{Repaired}
 use Rattle.sha256.specs.Sha256.{pair_hash}
 use Rattle.tree.specs.Geometry.{covering, node_number}
@@ -146,6 +148,11 @@ repair_number s b = cond (eqb (opening_number (length s) b) 0) (cond (rooted b) 
 
 abbrev pub not_repaired : ℕ → Repaired
 not_repaired n = record { number = n; dropped = 0; held = 0 }
+
+-- what C gets of a repair or a refusal
+abbrev pub repaired_of : Result Repaired Refused → Repaired
+repaired_of (Ok r) = r
+repaired_of (Err why) = not_repaired (number_of why)
 
 -- how many positions were dropped, and how many are held
 unfoldable pub repair_answer : List ℕ → List ℕ → Repaired

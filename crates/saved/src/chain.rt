@@ -19,12 +19,10 @@ pub fn pad_values(height: usize) -> [u8; 672]
 {
     let mut pads = [0u8; 672];
     let mut v = [0u8; 32];
-    let mut l = 0;
-    while l <= height {
+    for l in 0..height + 1 {
         put_hash(&mut pads, 32 * l, v);
         let w = pair(v, v);
         v = w;
-        l += 1;
     }
     pads
 }
@@ -51,11 +49,9 @@ fn gathered(bytes: &[u8], place: usize) -> [u8; 512]
     ensures { Filled (λ (x : ℕ). hash_in bytes.now (place + x)) 512 16 result }
 {
     let mut row = [0u8; 512];
-    let mut x = 0;
-    while x < 16 {
+    for x in 0..16 {
         let hash = hash_in(bytes, place + x);
         put_hash(&mut row, 32 * x, hash);
-        x += 1;
     }
     row
 }
@@ -172,10 +168,7 @@ pub fn two_more(count: usize, two: bool) -> usize
     requires { count + 2 < 2 ^ 64 }
     ensures { result ≡ cond two (count + 2) count }
 {
-    if two {
-        return count + 2;
-    }
-    count
+    count + 2 * usize::from(two)
 }
 
 // One pair more is claimed, and the room ready for the next one; or none.
@@ -203,11 +196,9 @@ fn claim_all(
     ensures { (2 * result ≡ S.claimed height blocks bytes.now places) × (2 * result ≤ places) }
 {
     let mut n = 0;
-    let mut j = 0;
-    while j < places {
+    for j in 0..places {
         let two = family_at(bytes, pads, &*room, height, blocks, n, j, places);
         n = claim(room, bytes, n, places, two);
-        j += 1;
     }
     n
 }

@@ -103,8 +103,7 @@ pub fn places_good(bytes: &[u8], height: usize, places: usize) -> bool
     ensures { result ≡ F.places_good height bytes.now places }
 {
     let mut next = 0;
-    let mut k = 0;
-    while k < places {
+    for k in 0..places {
         let ok = place_there(bytes, height, k);
         if !ok {
             return false;
@@ -114,7 +113,6 @@ pub fn places_good(bytes: &[u8], height: usize, places: usize) -> bool
             return false;
         }
         next = rank + 1;
-        k += 1;
     }
     true
 }
@@ -133,8 +131,7 @@ pub fn marks_good(bytes: &[u8], blocks: usize, at: usize, marks: usize) -> bool
     ensures { result ≡ F.marks_good blocks bytes.now at marks }
 {
     let mut next = 0;
-    let mut k = 0;
-    while k < marks {
+    for k in 0..marks {
         if bytes[at + 5 * k] != 3 {
             return false;
         }
@@ -146,7 +143,6 @@ pub fn marks_good(bytes: &[u8], blocks: usize, at: usize, marks: usize) -> bool
             return false;
         }
         next = block + 1;
-        k += 1;
     }
     true
 }

@@ -3,7 +3,7 @@ ghost use Rattle.std.specs.Prelude.{◌≡◌, true, ◌+◌, ◌*◌, ◌≤◌
 ghost use Rattle.cells.specs.Cells.{Room};
 ghost use Rattle.cells.specs.Entries.{put_all};
 ghost use Rattle.limits.specs.Limits.{longest_file, tallest_tree};
-ghost use Rattle.numbers.specs.Numbers.{done};
+ghost use Rattle.numbers.specs.Refusals.{answer_of, code_of};
 ghost use Rattle.store.specs.Store.{Facts, blocks_of, in_tree, positions};
 ghost use Rattle.marks.specs.Marks.{marks_start, marks_put};
 ghost use Rattle.saved.specs.Form as F;
@@ -12,30 +12,31 @@ ghost use Rattle.saved.specs.Saved as S;
 use crate::chain::{claimed, root_right};
 use crate::form::{block_in, hash_in, index_in, is_formed, layer_in, mark_count, place_count};
 use marks::marks_start;
-use numbers::Answer;
+use numbers::{Answer, Refused};
 use octets::{hash_at, number_at};
 use tree::geometry::{block_count, height, node_number};
 
-// 32 without a whole opening record, 10 for its facts, 9 for the room that a buffer of `size` bytes has not; or 0.
-pub fn opening_number(size: usize, bytes: &[u8]) -> u32
-    ensures { result ≡ S.opening_number size bytes.now }
+// Why bytes are not loaded into a buffer of `size` bytes: 32 without a whole opening record, 10 for its facts, 9 for the room.
+pub fn opening_number(size: usize, bytes: &[u8]) -> Result<(), Refused>
+    ensures { code_of result ≡ S.opening_number size bytes.now }
 {
     if bytes.len() < 45 {
-        return numbers::NOT_SAVED;
+        return Err(Refused::NotSaved);
     }
     if bytes[0] != 1 {
-        return numbers::NOT_SAVED;
+        return Err(Refused::NotSaved);
     }
     let n = number_at(bytes, 1, 8);
     let plen = number_at(bytes, 9, 4);
+    // kd_store_size answers by a number: C interface.
     let due = store::store_size(n, plen);
     if due.number != 0 {
-        return numbers::FACTS_OUT_OF_RANGE;
+        return Err(Refused::FactsOutOfRange);
     }
     if (size as u64) < due.count {
-        return numbers::UNUSABLE;
+        return Err(Refused::Unusable);
     }
-    0
+    Ok(())
 }
 
 // Whether bytes with a whole opening record in range may be loaded.
@@ -76,10 +77,8 @@ fn put_places(store: &mut [u8], bytes: &[u8], height: usize, places: usize)
     requires { (height ≤ tallest_tree) × (45 + 41 * places ≤ length bytes.now) × (F.places_good height bytes.now places ≡ true) × Room (positions height) store.old }
     ensures { store.new ≡ put_all store.old (S.entries_in height bytes.now places) }
 {
-    let mut k = 0;
-    while k < places {
+    for k in 0..places {
         put_place(store, bytes, height, k);
-        k += 1;
     }
 }
 
@@ -97,18 +96,16 @@ fn set_marks(store: &mut [u8], bytes: &[u8], at: usize, m: usize)
     ensures { store.new ≡ S.marks_set store.old bytes.now at m }
 {
     let start = marks_start(store);
-    let mut k = 0;
-    while k < m {
+    for k in 0..m {
         let block = block_in(bytes, at, k);
         set_mark(store, start, block);
-        k += 1;
     }
 }
 
-// The buffer is opened with the facts that the bytes name; then their positions become held and their marks are set.
-fn write_all(store: &mut [u8], bytes: &[u8]) -> Answer
+// The buffer is opened with the facts that the bytes name; then their positions become held and their marks are set: how many positions.
+fn write_all(store: &mut [u8], bytes: &[u8]) -> u64
     requires { (S.opening_number (length store.old) bytes.now ≡ 0) × (S.sound bytes.now ≡ true) }
-    ensures { (result ≡ done (F.place_count bytes.now)) × (store.new ≡ S.loaded store.old bytes.now) }
+    ensures { (result ≡ F.place_count bytes.now) × (store.new ≡ S.loaded store.old bytes.now) }
 {
     let n = number_at(bytes, 1, 8);
     let plen = number_at(bytes, 9, 4);
@@ -121,7 +118,19 @@ fn write_all(store: &mut [u8], bytes: &[u8]) -> Answer
     let m = mark_count(bytes);
     let at = 45 + 41 * p;
     set_marks(store, bytes, at, m);
-    numbers::success(p as u64)
+    p as u64
+}
+
+fn loaded(store: &mut [u8], bytes: &[u8]) -> Result<u64, Refused>
+    ensures answer { answer_of result ≡ S.load_answer store.old bytes.now }
+    ensures left { store.new ≡ S.load_after store.old bytes.now }
+{
+    opening_number(store.len(), bytes)?;
+    if !is_sound(bytes) {
+        return Err(Refused::NotSaved);
+    }
+    let held = write_all(store, bytes);
+    Ok(held)
 }
 
 // Loads a saved store: 32 without a whole opening record, 10 for its facts, 9 for the room, 32 where the bytes have not the form or do not chain to the
@@ -129,13 +138,5 @@ fn write_all(store: &mut [u8], bytes: &[u8]) -> Answer
 pub fn load(store: &mut [u8], bytes: &[u8]) -> Answer
     ensures { (result ≡ S.load_answer store.old bytes.now) × (store.new ≡ S.load_after store.old bytes.now) }
 {
-    let number = opening_number(store.len(), bytes);
-    if number != 0 {
-        return numbers::refusal(number);
-    }
-    let ok = is_sound(bytes);
-    if !ok {
-        return numbers::refusal(numbers::NOT_SAVED);
-    }
-    write_all(store, bytes)
+    Answer::from(loaded(store, bytes))
 }

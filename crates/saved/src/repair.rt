@@ -10,6 +10,7 @@ ghost use Rattle.saved.specs.Saved as S;
 use crate::chain::{pad_right, pad_values, root_right, two_more};
 use crate::form::{hash_in, index_in, is_formed, layer_in, place_count, rank_in};
 use crate::load::{opening_number, put_place};
+use numbers::Refused;
 use octets::{hash_at, number_at, same};
 use sha256::pair;
 use tree::geometry::{block_count, height, node_number};
@@ -123,6 +124,7 @@ fn mend_by(
     ensures { (result ≡ S.mended_many height blocks bytes.now store.old places) × (store.new ≡ S.mended height blocks bytes.now store.old places) × (result ≤ places) }
 {
     let mut kept = 0;
+    // By two where they join, else by one: a cursor, no counted index.
     let mut k = places;
     while 1 < k {
         let first = k - 2;
@@ -151,14 +153,18 @@ pub struct Repaired {
     pub held: u64,
 }
 
-// Beside a refusal both counts are zero.
-fn not_repaired(number: u32) -> Repaired
-    ensures { result ≡ S.not_repaired number }
-{
-    Repaired {
-        number,
-        dropped: 0,
-        held: 0,
+impl From<Result<Repaired, Refused>> for Repaired {
+    ghost from_gives = { λ outcome repaired. repaired ≡ S.repaired_of outcome };
+
+    fn from(outcome: Result<Repaired, Refused>) -> Repaired {
+        match outcome {
+            Ok(repaired) => repaired,
+            Err(why) => Repaired {
+                number: u32::from(why),
+                dropped: 0,
+                held: 0,
+            },
+        }
     }
 }
 
@@ -195,25 +201,28 @@ fn write_kept(store: &mut [u8], bytes: &[u8]) -> usize
     kept + 1
 }
 
+fn kept(store: &mut [u8], bytes: &[u8]) -> Result<Repaired, Refused>
+    ensures answer { S.repaired_of result ≡ S.repair_answer store.old bytes.now }
+    ensures left { store.new ≡ S.repair_after store.old bytes.now }
+{
+    opening_number(store.len(), bytes)?;
+    if !is_rooted(bytes) {
+        return Err(Refused::NotSaved);
+    }
+    let held = write_kept(store, bytes);
+    let p = place_count(bytes);
+    let dropped = p - held;
+    Ok(Repaired {
+        number: 0,
+        dropped: dropped as u64,
+        held: held as u64,
+    })
+}
+
 // Loads the largest part of a saved store that chains to the root, without its marks: 32 without a whole opening record, 10 for its facts, 9 for the
 // room, 32 where the bytes have not the form or the root has not the opening's value. A refusal changes nothing.
 pub fn repair(store: &mut [u8], bytes: &[u8]) -> Repaired
     ensures { (result ≡ S.repair_answer store.old bytes.now) × (store.new ≡ S.repair_after store.old bytes.now) }
 {
-    let number = opening_number(store.len(), bytes);
-    if number != 0 {
-        return not_repaired(number);
-    }
-    let ok = is_rooted(bytes);
-    if !ok {
-        return not_repaired(numbers::NOT_SAVED);
-    }
-    let held = write_kept(store, bytes);
-    let p = place_count(bytes);
-    let dropped = p - held;
-    Repaired {
-        number: 0,
-        dropped: dropped as u64,
-        held: held as u64,
-    }
+    Repaired::from(kept(store, bytes))
 }

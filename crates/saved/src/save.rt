@@ -2,6 +2,7 @@
 ghost use Rattle.std.specs.Prelude.{◌≡◌, true, cond, ◌∷◌, ◌+◌, ◌-◌, ◌*◌, ◌^◌, ◌≤◌, ◌<◌, length};
 ghost use Rattle.limits.specs.Limits.{tallest_tree};
 ghost use Rattle.octets.specs.Octets.{be, pasted};
+ghost use Rattle.numbers.specs.Refusals.{answer_of};
 ghost use Rattle.tree.specs.Geometry.{node_number};
 ghost use Rattle.cells.specs.Cells.{Room, held_at};
 ghost use Rattle.store.specs.Store.{positions, usable, blocks_of, height_of};
@@ -10,7 +11,7 @@ ghost use Rattle.saved.specs.Form as F;
 ghost use Rattle.saved.specs.Save as S;
 
 use marks::marks_start;
-use numbers::Answer;
+use numbers::{Answer, Refused};
 use octets::{put_hash, put_number};
 use store::{blocks_of, facts_root, file_length, height_of, is_usable, piece_length_of};
 use tree::geometry::node_number;
@@ -20,10 +21,7 @@ fn one_more(n: usize, yes: bool) -> usize
     requires { n + 1 < 2 ^ 64 }
     ensures { result ≡ cond yes (n + 1) n }
 {
-    if yes {
-        return n + 1;
-    }
-    n
+    n + usize::from(yes)
 }
 
 // Whether position i of `layer` is held.
@@ -41,11 +39,9 @@ fn count_layer(store: &[u8], height: usize, layer: usize, w: usize) -> usize
     ensures { (result ≡ length (S.layer_held store.now height layer w)) × (result ≤ w) }
 {
     let mut n = 0;
-    let mut i = 0;
-    while i < w {
+    for i in 0..w {
         let held = held_in(store, height, layer, i);
         n = one_more(n, held);
-        i += 1;
     }
     n
 }
@@ -89,10 +85,8 @@ fn put_layer(
     ensures { (result ≡ at + 41 * length (S.layer_held store.now height layer w)) × (out.new ≡ pasted out.old at (F.places_bytes (S.layer_held store.now height layer w))) }
 {
     let mut here = at;
-    let mut i = 0;
-    while i < w {
+    for i in 0..w {
         here = put_held(store, out, here, height, layer, i);
-        i += 1;
     }
     here
 }
@@ -103,13 +97,11 @@ fn count_layers(store: &[u8], height: usize, upto: usize) -> usize
     ensures { (result ≡ length (S.held_below store.now height upto)) × (result ≤ upto * 2 ^ tallest_tree) }
 {
     let mut n = 0;
-    let mut l = 0;
-    while l < upto {
+    for l in 0..upto {
         let d = height - l;
         let w = 1 << d;
         let more = count_layer(store, height, l, w);
         n += more;
-        l += 1;
     }
     n
 }
@@ -120,12 +112,10 @@ fn put_layers(store: &[u8], out: &mut [u8], at: usize, height: usize, upto: usiz
     ensures { (result ≡ at + 41 * length (S.held_below store.now height upto)) × (out.new ≡ pasted out.old at (F.places_bytes (S.held_below store.now height upto))) }
 {
     let mut here = at;
-    let mut l = 0;
-    while l < upto {
+    for l in 0..upto {
         let d = height - l;
         let w = 1 << d;
         here = put_layer(store, out, here, height, l, w);
-        l += 1;
     }
     here
 }
@@ -145,11 +135,9 @@ fn count_marks(store: &[u8], n: usize) -> usize
 {
     let start = marks_start(store);
     let mut m = 0;
-    let mut i = 0;
-    while i < n {
+    for i in 0..n {
         let set = mark_at(store, start, i);
         m = one_more(m, set);
-        i += 1;
     }
     m
 }
@@ -183,10 +171,8 @@ fn put_marked(store: &[u8], out: &mut [u8], at: usize, n: usize) -> usize
 {
     let start = marks_start(store);
     let mut here = at;
-    let mut i = 0;
-    while i < n {
+    for i in 0..n {
         here = put_mark(store, start, out, here, i);
-        i += 1;
     }
     here
 }
@@ -218,13 +204,12 @@ fn put_all(store: &[u8], out: &mut [u8], m: usize)
     put_short(out, end, 4, m);
 }
 
-// Saves a store: 9 for one that is not usable, 11 where the output is shorter than the save, or 0 and its size. A refusal writes nothing.
-pub fn save(store: &[u8], out: &mut [u8]) -> Answer
-    ensures { (result ≡ S.save_answer store.now out.old) × (out.new ≡ S.save_after store.now out.old) }
+fn written(store: &[u8], out: &mut [u8]) -> Result<u64, Refused>
+    ensures answer { answer_of result ≡ S.save_answer store.now out.old }
+    ensures left { out.new ≡ S.save_after store.now out.old }
 {
-    let ok = is_usable(store);
-    if !ok {
-        return numbers::refusal(numbers::UNUSABLE);
+    if !is_usable(store) {
+        return Err(Refused::Unusable);
     }
     let h = height_of(store);
     let p = count_layers(store, h, h + 1);
@@ -232,8 +217,15 @@ pub fn save(store: &[u8], out: &mut [u8]) -> Answer
     let m = count_marks(store, c);
     let size = 50 + 41 * p + 5 * m;
     if out.len() < size {
-        return numbers::refusal(numbers::NO_ROOM);
+        return Err(Refused::NoRoom);
     }
     put_all(store, out, m);
-    numbers::success(size as u64)
+    Ok(size as u64)
+}
+
+// Saves a store: 9 for one that is not usable, 11 where the output is shorter than the save, or 0 and its size. A refusal writes nothing.
+pub fn save(store: &[u8], out: &mut [u8]) -> Answer
+    ensures { (result ≡ S.save_answer store.now out.old) × (out.new ≡ S.save_after store.now out.old) }
+{
+    Answer::from(written(store, out))
 }

@@ -1,29 +1,21 @@
 -- What each function answers, from what its callees ensure and the tests it took.
 -- Assumes nothing.
-use mathlib.Core.Path.{◌≡◌, refl, ap, sym, ◌∙◌}
-use mathlib.Core.Bool.{Bool, true, false}
-use mathlib.Core.List.{List, ◌∷◌, ◌++◌, append_assoc}
-use mathlib.Core.Logic.{inl, inr}
-use Prim.Native.Nat.{ℕ, suc, ◌+◌, ◌*◌, ◌%◌, ◌^◌, ◌≤◌, ◌<◌}
-use native.Mathlib.Nat.{one-mul}
-use native.Mathlib.Omega.{arith}
-use lib.ListN.{length, length-append}
-use lib.Pow.{pow_mono, shl_exact}
-use borrow.Author.Tests.{ne_eqb}
-use Rattle.octets.specs.Octets.{pasted}
+use Rattle.std.specs.Prelude.{◌≡◌, refl, Bool, true, false, cond, List, ◌∷◌, ◌++◌, ℕ, suc, ◌+◌, ◌*◌, ◌%◌, ◌^◌, ◌≤◌, ◌<◌, length}
+use Rattle.std.proofs.Common.{ap, ap₂, sym, ◌∙◌, append_assoc, inl, inr, one-mul, arith, length-append, pow_mono, shl_exact, ne_eqb}
+use Rattle.octets.specs.Octets.{pasted, same}
 use Rattle.octets.specs.OctetsLaws.{cut_length, pasted_append}
-use Rattle.numbers.specs.Numbers.{refused, done, unusable, no_message, no_room, not_held}
+use Rattle.numbers.specs.Numbers.{refused, done, unusable, no_message, other_root, rule_broken, no_room, not_held}
 use Rattle.numbers.specs.declared.Answer.{Answer}
 use Rattle.limits.specs.Limits.{tallest_tree}
-use Rattle.store.specs.Store.{Facts}
+use Rattle.store.specs.Store.{Facts, usable, facts_root, height_of}
 use Rattle.store.specs.StoreLaws.{usable_facts}
 use Rattle.header.specs.declared.Place.{Place}
-use Rattle.header.specs.Header.{header_size, header_bytes, hashes_id, reject_id, is_request}
-use Rattle.messages.specs.Take.{header_number, place_in}
+use Rattle.header.specs.Header.{header_size, header_bytes, hashes_id, reject_id, is_request, message_root, header_of, rules_kept}
+use Rattle.messages.specs.Take.{header_number, place_in, or_else}
 use Rattle.messages.specs.TakeLaws.{passed, request_form}
 use Rattle.serve.specs.Serve.{held_run, held_uncles, run_hashes, uncle_hashes, all_held, all_hashes, reply_to, reject_to, request_number, serve_answer, serve_after}
 use Rattle.serve.specs.Asks.{Reach, fit_answer, fit_after}
-use Rattle.serve.specs.ServeLaws.{run_hashes_length, uncle_hashes_length, fits_sent, fits_not, served_none, served_reply, served_reject, answered_form, request_size, request_reach, reply_length, reject_length}
+use Rattle.serve.specs.ServeLaws.{run_hashes_length, uncle_hashes_length, fits_sent, fits_not, served_none, served_reply, served_reject, request_size, request_reach, reply_length, reject_length}
 
 -- a power of two as it is shifted
 pub count_of : (k : ℕ) → k ≤ tallest_tree → ((1 * 2 ^ k) % 18446744073709551616 ≡ 2 ^ k) × ((1 * 2 ^ k) % 18446744073709551616 ≤ 2 ^ tallest_tree)
@@ -89,6 +81,28 @@ module _ (s m : List ℕ) (t : Bool) (n : ℕ) (a : t ≡ is_request m) (b : n �
       unfolding request_number
       number_not_held y = sym (rw (number_passed, looked, y))
 
+-- 9 and 1 are tested first,
+pub quiet_9 : (s m : List ℕ) → usable s ≡ false → unusable ≡ request_number s m
+unfolding request_number header_number
+quiet_9 s m u = sym (rw u refl)
+
+pub quiet_1 : (s m : List ℕ) → usable s ≡ true → is_request m ≡ false → no_message ≡ request_number s m
+unfolding request_number header_number
+quiet_1 s m u f = sym (rw (u, f) refl)
+
+-- and behind them no test has these numbers
+pub loud : (s m : List ℕ) → usable s ≡ true → is_request m ≡ true → (request_number s m ≡ unusable → ⊥) × (request_number s m ≡ no_message → ⊥)
+unfolding request_number header_number
+loud s m u f = rw (u, f) (by (same (facts_root s) (message_root m)) (rules_kept (header_of m) (height_of s)) (all_held s (place_in s m)))
+  where
+    by : (a b c : Bool)
+        → (or_else (cond a (cond b 0 rule_broken) other_root) (cond c 0 not_held) ≡ unusable → ⊥)
+        × (or_else (cond a (cond b 0 rule_broken) other_root) (cond c 0 not_held) ≡ no_message → ⊥)
+    by true true true = (λ e. omega (arith, e), λ e. omega (arith, e))
+    by true true false = (λ e. omega (arith, e), λ e. omega (arith, e))
+    by true false c = (λ e. omega (arith, e), λ e. omega (arith, e))
+    by false b c = (λ e. omega (arith, e), λ e. omega (arith, e))
+
 -- ---- sending
 
 module _ (s m out : List ℕ) (e : header_number (is_request m) s m ≡ 0) (p : Place) (f : p ≡ place_in s m) (c : ℕ) (g : c ≡ 2 ^ p.k) where
@@ -137,12 +151,12 @@ module _ (m out : List ℕ) (number : ℕ) (e : length m ≡ header_size) where
       let w = fits_not number (reject_to m) out (omega (arith, reject_length m e)) in
       (q ∙ sym w.0, sym w.1)
 
-  pub reject_sent : (out1 : List ℕ) → header_size ≤ length out → out1 ≡ pasted out 0 (reject_id ∷ header_bytes m)
-      → (record { number = number; count = header_size } ≡ fit_answer number (reject_to m) out) × (out1 ≡ fit_after (reject_to m) out)
+  pub reject_sent : (n : ℕ) → n ≡ number → (out1 : List ℕ) → header_size ≤ length out → out1 ≡ pasted out 0 (reject_id ∷ header_bytes m)
+      → (record { number = n; count = header_size } ≡ fit_answer number (reject_to m) out) × (out1 ≡ fit_after (reject_to m) out)
   unfolding reject_to
-  reject_sent out1 l a =
+  reject_sent n q out1 l a =
       let w = fits_sent number (reject_to m) out (omega (arith, reject_length m e)) in
-      (ap (λ (k : ℕ). record { number = number; count = k }) (sym (reject_length m e)) ∙ sym w.0, a ∙ sym w.1)
+      (ap₂ (λ (i k : ℕ). record { number = i; count = k }) q (sym (reject_length m e)) ∙ sym w.0, a ∙ sym w.1)
 
 -- ---- serving
 
@@ -162,9 +176,6 @@ module _ (s m out : List ℕ) (n : ℕ) (e : n ≡ request_number s m) where
   serve_reply r out1 z w = along w (served_reply s m out (sym e ∙ z))
 
   module _ (a : n ≡ unusable → ⊥) (b : n ≡ no_message → ⊥) where
-    pub serve_form : length m ≡ header_size
-    serve_form = answered_form s m (λ z. a (e ∙ z)) (λ z. b (e ∙ z))
-
     pub serve_reject : (r : Answer) (out1 : List ℕ) → (n ≡ 0 → ⊥) → (r ≡ fit_answer n (reject_to m) out) × (out1 ≡ fit_after (reject_to m) out)
         → (r ≡ serve_answer s m out) × (out1 ≡ serve_after s m out)
     serve_reject r out1 z w = along w (served_reject s m out n (sym e) a b z)

@@ -8,46 +8,44 @@ ghost use Rattle.cells.specs.Cells.{Room};
 ghost use Rattle.header.specs.Header.{header_size, header_bytes, is_request};
 ghost use Rattle.messages.specs.Take.{header_number, place_in};
 ghost use Rattle.serve.specs.Serve as S;
-ghost use Rattle.serve.specs.Asks.{Reach, fit_answer, fit_after};
+ghost use Rattle.numbers.specs.Refusals.{number_of};
+ghost use Rattle.serve.specs.Asks.{Reach, Asked, fit_answer, fit_after};
 
 use cells::{hash_of, held};
 use header::{HASHES, HEADER_SIZE, Place, REJECT, header_of, is_request};
-use messages::take::{first_number, place_in, rules_in};
-use numbers::{Answer, refusal, success};
+use messages::take::{check_header, place_in};
+use numbers::{Answer, Refused, refusal, success};
 use octets::put_hash;
 use settling::sibling;
+use store::is_usable;
 
 // Whether the c positions from number n on are all held.
 fn held_run(store: &[u8], n: usize, c: usize) -> bool
     requires { Room (n + c) store.now }
     ensures { result ≡ S.held_run store.now n c }
 {
-    let mut i = 0;
-    while i < c {
+    for i in 0..c {
         let there = held(store, n + i);
         if !there {
             return false;
         }
-        i += 1;
     }
     true
 }
 
-// Whether the u uncles from position n upward are all held.
+// Whether the u uncles from position n upward are all held. It shares the way up alone with copy_uncles: one stops at an uncle, the other copies it.
 fn held_uncles(store: &[u8], u: usize, n: usize) -> bool
     requires { Room (n + 2) store.now }
     ensures { result ≡ S.held_uncles store.now u n }
 {
     let mut x = n;
-    let mut i = 0;
-    while i < u {
+    for i in 0..u {
         let q = sibling(x);
         let there = held(store, q);
         if !there {
             return false;
         }
         x = x / 2;
-        i += 1;
     }
     true
 }
@@ -70,11 +68,7 @@ fn all_held(store: &[u8], place: Place) -> bool
     let top = place.top;
     let c = run_count(k);
     let n = top * c;
-    let run = held_run(store, n, c);
-    if run {
-        return held_uncles(store, u, top);
-    }
-    false
+    held_run(store, n, c) && held_uncles(store, u, top)
 }
 
 // Writes the 49 bytes before the hashes: an id, then the request's own 48.
@@ -83,23 +77,20 @@ fn write_head(out: &mut [u8], message: &[u8], id: u8)
     ensures { out.new ≡ pasted out.old 0 (id ∷ header_bytes message.now) }
 {
     out[0] = id;
-    let mut i = 1;
-    while i < HEADER_SIZE {
+    for i in 1..HEADER_SIZE {
         out[i] = message[i];
-        i += 1;
     }
 }
 
+// Hashes are copied one by one: copy_from_slice is a call for each, and slower.
 // Copies the hashes of the c positions from number n on, one after the other, from `at` on.
 fn copy_run(store: &[u8], out: &mut [u8], at: usize, n: usize, c: usize)
     requires { Room (n + c) store.now × (at + 32 * c ≤ length out.old) }
     ensures { out.new ≡ pasted out.old at (S.run_hashes store.now n c) }
 {
-    let mut i = 0;
-    while i < c {
+    for i in 0..c {
         let h = hash_of(store, n + i);
         put_hash(out, at + 32 * i, h);
-        i += 1;
     }
 }
 
@@ -109,13 +100,11 @@ fn copy_uncles(store: &[u8], out: &mut [u8], at: usize, u: usize, n: usize)
     ensures { out.new ≡ pasted out.old at (S.uncle_hashes store.now u n) }
 {
     let mut x = n;
-    let mut i = 0;
-    while i < u {
+    for i in 0..u {
         let q = sibling(x);
         let h = hash_of(store, q);
         put_hash(out, at + 32 * i, h);
         x = x / 2;
-        i += 1;
     }
 }
 
@@ -141,42 +130,46 @@ fn send_reply(store: &[u8], message: &[u8], place: Place, out: &mut [u8]) -> Ans
 }
 
 // Sends the reject with that number, or gives 11 where the output is too short for it.
-fn send_reject(message: &[u8], out: &mut [u8], number: u32) -> Answer
+fn send_reject(message: &[u8], out: &mut [u8], why: Refused) -> Answer
     requires { length message.now ≡ header_size }
-    ensures { (result ≡ fit_answer number (S.reject_to message.now) out.old) × (out.new ≡ fit_after (S.reject_to message.now) out.old) }
+    ensures { (result ≡ fit_answer (number_of why) (S.reject_to message.now) out.old) × (out.new ≡ fit_after (S.reject_to message.now) out.old) }
 {
     if out.len() < HEADER_SIZE {
         return refusal(numbers::NO_ROOM);
     }
     write_head(out, message, REJECT);
     let count = HEADER_SIZE as u64;
-    Answer { number, count }
+    Answer {
+        number: u32::from(why),
+        count,
+    }
+}
+
+// The place that a request asks for, where all its hashes are held: else 9, 1, 2, 3 or 12.
+fn asked(store: &[u8], message: &[u8]) -> Result<Place, Refused>
+    ensures { Asked store.now message.now result }
+{
+    let form = is_request(message);
+    check_header(store, message, form)?;
+    let place = place_in(store, header_of(message));
+    if !all_held(store, place) {
+        return Err(Refused::NotHeld);
+    }
+    Ok(place)
 }
 
 // Serves a request: the number, and how many bytes of `out` are the message to send back.
 pub fn serve(store: &[u8], message: &[u8], out: &mut [u8]) -> Answer
     ensures { (result ≡ S.serve_answer store.now message.now out.old) × (out.new ≡ S.serve_after store.now message.now out.old) }
 {
-    let form = is_request(message);
-    let first = first_number(store, message, form);
-    if first == numbers::UNUSABLE {
+    if !is_usable(store) {
         return refusal(numbers::UNUSABLE);
     }
-    if first == numbers::NO_MESSAGE {
+    if !is_request(message) {
         return refusal(numbers::NO_MESSAGE);
     }
-    if first != numbers::DONE {
-        return send_reject(message, out, first);
+    match asked(store, message) {
+        Ok(place) => send_reply(store, message, place, out),
+        Err(why) => send_reject(message, out, why),
     }
-    let x = header_of(message);
-    let kept = rules_in(store, x);
-    if !kept {
-        return send_reject(message, out, numbers::RULE_BROKEN);
-    }
-    let p = place_in(store, x);
-    let there = all_held(store, p);
-    if !there {
-        return send_reject(message, out, numbers::NOT_HELD);
-    }
-    send_reply(store, message, p, out)
 }

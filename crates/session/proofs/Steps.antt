@@ -1,15 +1,8 @@
 -- Each answer of the code, by one law over plain variables.
 -- Assumes nothing.
-use mathlib.Core.Path.{◌≡◌, refl, ap, ap₂, sym, ◌∙◌, subst}
-use mathlib.Core.Bool.{Bool, true, false, cond}
-use mathlib.Core.List.{List, [], ◌∷◌, ◌++◌}
-use Prim.Native.Nat.{ℕ, ◌+◌, ◌-◌, ◌≤◌, ◌<◌}
-use native.Mathlib.Omega.{arith}
-use native.Mathlib.Numerals.{add-one}
-use lib.ListN.{length, take, set}
-use lib.Seq.{take-suc-set, length-take-le, get_or-take}
-use lib.Dec.{leb}
-use borrow.Author.Tests.{eq-eqb, ne_eqb, le-leb, lt-leb}
+use Rattle.std.specs.Prelude.{◌≡◌, refl, Bool, true, false, cond, List, [], ◌∷◌, ◌++◌, ℕ, ◌+◌, ◌-◌, ◌≤◌, ◌<◌, length, take, set, leb}
+use Rattle.std.proofs.Common.{ap, ap₂, sym, ◌∙◌, subst, arith, add-one, take-suc-set, length-take-le, get_or-take, eq-eqb, ne_eqb, le-leb}
+use Rattle.std.proofs.lemmas.Bool.{lt-leb}
 use Rattle.octets.specs.Octets.{cut, number_at}
 use Rattle.octets.specs.OctetsLaws.{number_same, cut_cut}
 use Rattle.numbers.specs.Numbers.{refused, done, no_message, facts_out_of_range}

@@ -1,15 +1,8 @@
 -- The turns of the loop over a piece.
 -- Assumes nothing.
-use mathlib.Core.Path.{◌≡◌, refl, ap, sym, ◌∙◌}
-use mathlib.Core.Bool.{true, false}
-use mathlib.Core.List.{List, ◌∷◌}
-use Prim.Native.Nat.{ℕ, suc, ◌+◌, ◌≤◌, ◌<◌}
-use native.Mathlib.Omega.{arith}
-use native.Mathlib.Numerals.{add-one}
-use lib.ListN.{length, take, drop, get_or, drop_of_length-le}
-use lib.Seq.{drop-cons}
-use Rattle.session.specs.declared.Line.{Line}
-use Rattle.session.specs.declared.Line.TheVariants.{Nothing}
+use Rattle.std.specs.Prelude.{◌≡◌, refl, true, false, List, ◌∷◌, ℕ, suc, ◌+◌, ◌≤◌, ◌<◌, length, take, drop, get_or, Option, Some, None, Bool, is_some, not}
+use Rattle.std.proofs.Common.{ap, sym, ◌∙◌, arith, add-one, drop_of_length-le, drop-cons}
+use Rattle.numbers.specs.declared.Answer.{Answer}
 use Rattle.session.specs.declared.Progress.{Progress}
 use Rattle.session.specs.declared.Stepped.{Stepped}
 use Rattle.session.specs.declared.Part.{Part}
@@ -18,10 +11,10 @@ use Rattle.session.specs.Session.{Session, Reading, step, next, silent, further,
 
 -- ---- a reading with another count
 
-abbrev sized : Session → ℕ → Line → Reading
+abbrev sized : Session → ℕ → Option Answer → Reading
 sized y n l = record { session = y; used = n; line = l }
 
-used_as : (y : Session) (n m : ℕ) (l : Line) → n ≡ m → sized y n l ≡ sized y m l
+used_as : (y : Session) (n m : ℕ) (l : Option Answer) → n ≡ m → sized y n l ≡ sized y m l
 used_as y n m l e = ap (λ (k : ℕ). sized y k l) e
 
 -- ---- what holds at each turn: i bytes are read, and none of them gave a line
@@ -40,11 +33,11 @@ pub reached_start : (piece s room : List ℕ) (q : Progress) → Due q.phase q.a
 reached_start piece s room q d = record { within = omega arith; due = d; store_kept = refl; room_kept = refl; read = further_none (reading (seen q s room) piece) }
 
 module _ (x : Session) (piece : List ℕ) (ls lr : ℕ) (s room : List ℕ) (q : Progress) (i : ℕ) (R : Reached x piece ls lr s room q i) where
-  pub reached_end : length piece ≤ i → (r : Part) → r ≡ record { progress = q; used = i; line = Nothing } → Reads (reading x piece) r s room
+  pub reached_end : length piece ≤ i → (r : Part) → r ≡ record { progress = q; used = i; line = None } → Reads (reading x piece) r s room
   reached_end l r er =
-      let e : reading x piece ≡ record { session = seen q s room; used = i; line = Nothing } =
+      let e : reading x piece ≡ record { session = seen q s room; used = i; line = None } =
       R.read ∙ ap (λ (z : List ℕ). further i (reading (seen q s room) z)) (drop_of_length-le piece {i = i} l) ∙ ap (further i) (reading_none (seen q s room))
-      ∙ used_as (seen q s room) (i + 0) i Nothing (omega arith) in
+      ∙ used_as (seen q s room) (i + 0) i None (omega arith) in
       rw (er, e) (record { session = refl; used = refl; line = refl; due = R.due })
 
   module _ (b : ℕ) (f : Stepped) (s' room' : List ℕ) (l : i < length piece) (eb : b ≡ get_or piece i 0)
@@ -72,3 +65,9 @@ module _ (x : Session) (piece : List ℕ) (ls lr : ℕ) (s room : List ℕ) (q :
         let k : reading x piece ≡ record { session = (next (seen q s room) b).session; used = i + 1; line = (next (seen q s room) b).line } =
         R.read ∙ ap (λ (z : List ℕ). further i (reading (seen q s room) z)) here ∙ ap (further i) (reading_said (seen q s room) b (drop (i + 1) piece) e') in
         rw (er, k) (record { session = F.session; used = refl; line = F.line; due = F.due })
+
+-- ---- whether there is a line, as the code asks it
+
+pub silent_not : (l : Option Answer) (t : Bool) → is_some l ≡ t → silent l ≡ not t
+silent_not None t e = ap not e
+silent_not (Some a) t e = ap not e

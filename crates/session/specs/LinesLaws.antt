@@ -1,17 +1,13 @@
 -- The session, byte by byte, prints the lines of the records.
 -- Assumes nothing.
-use Rattle.std.specs.Prelude.{◌≡◌, Bool, true, false, cond, ◌&&◌, length, take, drop, leb, eqb}
+use Rattle.std.specs.Prelude.{◌≡◌, Bool, true, false, cond, ◌&&◌, length, take, drop, leb, eqb, List, [], ◌∷◌, ◌++◌, ℕ, zero, suc, ◌+◌, ◌-◌, ◌≤◌, ◌<◌, Some}
 use Rattle.std.proofs.Math.Path.{refl, ap}
-use Rattle.std.proofs.Common.{sym, ◌∙◌, length-drop, ne_eqb, le-leb, leb-true, leb-false}
-use mathlib.Core.List.{List, [], ◌∷◌, ◌++◌, append_assoc}
-use Prim.Native.Nat.{ℕ, zero, suc, ◌+◌, ◌-◌, ◌≤◌, ◌<◌}
-use native.Mathlib.Omega.{arith}
+use Rattle.std.proofs.Common.{sym, ◌∙◌, length-drop, ne_eqb, le-leb, leb-true, leb-false, append_assoc, arith}
 use Rattle.std.proofs.Math.Decide.{ℕ_discrete}
 use Rattle.numbers.specs.Numbers.{refused, done, no_message, facts_out_of_range}
 use Rattle.numbers.specs.declared.Answer.{Answer}
 use Rattle.session.specs.declared.Phase.{Phase}
 use Rattle.session.specs.declared.Phase.TheVariants.{Open, Opening, Inside, Body, Stopped}
-use Rattle.session.specs.declared.Line.TheVariants.{Answered}
 use Rattle.session.specs.Session as S
 use Rattle.session.specs.Session.{Session, Outcome, goes, says, broken, step, line_of, ending, printed, begun, max_message, length_in, piece_in, root_in, opens, body_byte, opening_byte}
 use Rattle.store.specs.Store as St
@@ -96,7 +92,7 @@ inside_kind_lem got s k =
 module _ (stage : ℕ → Phase) (s : List ℕ) (last : List ℕ → Outcome)
     (more : (l : ℕ) (got : List ℕ) (b : ℕ) → step (stage (suc l)) got s b ≡ goes (stage l) (got ++ (b ∷ [])) s)
     (done : (got : List ℕ) (b : ℕ) → step (stage 0) got s b ≡ last (got ++ (b ∷ [])))
-    (short : (l : ℕ) → ending (stage l) ≡ Answered (refused no_message)) where
+    (short : (l : ℕ) → ending (stage l) ≡ Some (refused no_message)) where
   body_whole : (l : ℕ) (got rest : List ℕ) → suc l ≤ length rest
       → printed (record { phase = stage l; got = got; store = s }) rest ≡ from (last (got ++ take (suc l) rest)) (drop (suc l) rest)
   unfolding printed

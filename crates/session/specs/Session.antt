@@ -1,6 +1,6 @@
 -- 01, "The replay program", byte by byte: where a session stands, what the next byte makes of it, and the line that it prints.
 -- Assumes nothing.
-use Rattle.std.specs.Prelude.{List, [], ◌∷◌, ◌++◌, Bool, true, false, cond, ◌&&◌, ◌≡◌, ℕ, ◌+◌, ◌-◌, ◌*◌, ◌≤◌, ◌<◌, length, take, leb, eqb}
+use Rattle.std.specs.Prelude.{List, [], ◌∷◌, ◌++◌, Bool, true, false, cond, ◌&&◌, ◌≡◌, ℕ, ◌+◌, ◌-◌, ◌*◌, ◌≤◌, ◌<◌, length, take, leb, eqb, Option, Some, None}
 use Rattle.octets.specs.Octets.{cut, number_at}
 use Rattle.numbers.specs.Numbers.{refused, done, no_message, facts_out_of_range}
 use Rattle.numbers.specs.declared.Answer.{Answer}
@@ -10,8 +10,6 @@ use Rattle.header.specs.Header.{header_size, hashes_id}
 use Rattle.messages.specs.Take.{take_answer, take_after}
 use Rattle.session.specs.declared.Phase.{Phase}
 use Rattle.session.specs.declared.Phase.TheVariants.{Fresh, Open, Opening, Inside, Body, Stopped}
-use Rattle.session.specs.declared.Line.{Line}
-use Rattle.session.specs.declared.Line.TheVariants.{Nothing, Answered}
 use Rattle.session.specs.declared.Progress.{Progress}
 use Rattle.session.specs.declared.Stepped.{Stepped}
 use Rattle.session.specs.declared.Part.{Part}
@@ -41,13 +39,13 @@ pub record Session : Type 0 where
 -- and what a byte makes of it
 pub record Outcome : Type 0 where
   pub session : Session
-  pub line : Line
+  pub line : Option Answer
 
 abbrev pub goes : Phase → List ℕ → List ℕ → Outcome
-goes x got s = record { session = record { phase = x; got = got; store = s }; line = Nothing }
+goes x got s = record { session = record { phase = x; got = got; store = s }; line = None }
 
 abbrev pub says : Phase → Answer → List ℕ → Outcome
-says x a s = record { session = record { phase = x; got = []; store = s }; line = Answered a }
+says x a s = record { session = record { phase = x; got = []; store = s }; line = Some a }
 
 -- a stop: the stream is broken, or an opening is refused
 abbrev pub broken : List ℕ → Outcome
@@ -106,23 +104,23 @@ step (Body left) got s b = body_byte left (got ++ (b ∷ [])) s
 step Stopped got s b = goes Stopped [] s
 
 -- the end of the input: it may not come inside a record or a message
-abbrev pub ending : Phase → Line
-ending Fresh = Nothing
-ending Open = Nothing
-ending (Opening left) = Answered (refused no_message)
-ending Inside = Answered (refused no_message)
-ending (Body left) = Answered (refused no_message)
-ending Stopped = Nothing
+abbrev pub ending : Phase → Option Answer
+ending Fresh = None
+ending Open = None
+ending (Opening left) = Some (refused no_message)
+ending Inside = Some (refused no_message)
+ending (Body left) = Some (refused no_message)
+ending Stopped = None
 
 -- ---- the lines printed for what is left of the input
 
-abbrev pub line_of : Line → List Answer
-line_of Nothing = []
-line_of (Answered a) = a ∷ []
+abbrev pub line_of : Option Answer → List Answer
+line_of None = []
+line_of (Some a) = a ∷ []
 
-abbrev pub silent : Line → Bool
-silent Nothing = true
-silent (Answered a) = false
+abbrev pub silent : Option Answer → Bool
+silent None = true
+silent (Some a) = false
 
 abbrev pub next : Session → ℕ → Outcome
 next x b = step x.phase x.got x.store b
@@ -140,13 +138,13 @@ begun lent = record { phase = Fresh; got = []; store = lent }
 pub record Reading : Type 0 where
   pub session : Session
   pub used : ℕ
-  pub line : Line
+  pub line : Option Answer
 
 abbrev pub further : ℕ → Reading → Reading
 further n r = record { session = r.session; used = n + r.used; line = r.line }
 
 unfoldable pub reading : Session → List ℕ → Reading
-reading x [] = record { session = x; used = 0; line = Nothing }
+reading x [] = record { session = x; used = 0; line = None }
 reading x (b ∷ rest) =
     cond (silent (next x b).line) (further 1 (reading (next x b).session rest)) (record { session = (next x b).session; used = 1; line = (next x b).line })
 
@@ -157,10 +155,10 @@ seen p s room = record { phase = p.phase; got = take p.at room; store = s }
 
 -- the same two outcomes, as the code answers them
 abbrev pub goes_at : Phase → ℕ → Stepped
-goes_at x at = record { progress = record { phase = x; at = at }; line = Nothing }
+goes_at x at = record { progress = record { phase = x; at = at }; line = None }
 
 abbrev pub says_at : Phase → Answer → Stepped
-says_at x a = record { progress = record { phase = x; at = 0 }; line = Answered a }
+says_at x a = record { progress = record { phase = x; at = 0 }; line = Some a }
 
 -- what is gathered, with what is due, fits
 abbrev pub Due : Phase → ℕ → Type 0

@@ -1,10 +1,8 @@
 -- Laws of a session: what reading a piece uses up, and that pieces of any size give the lines of the whole.
 -- Assumes nothing.
-use Rattle.std.specs.Prelude.{◌≡◌, refl, true, false, List, [], ◌∷◌, ◌++◌, ℕ, suc, ◌+◌, ◌-◌, ◌≤◌, ◌<◌, length, take, drop}
+use Rattle.std.specs.Prelude.{◌≡◌, refl, true, false, List, [], ◌∷◌, ◌++◌, ℕ, suc, ◌+◌, ◌-◌, ◌≤◌, ◌<◌, length, take, drop, Option, Some, None}
 use Rattle.std.proofs.Common.{ap, ◌∙◌, arith, length-take, length-drop}
 use Rattle.numbers.specs.declared.Answer.{Answer}
-use Rattle.session.specs.declared.Line.{Line}
-use Rattle.session.specs.declared.Line.TheVariants.{Nothing, Answered}
 use Rattle.session.specs.declared.Progress.{Progress}
 use Rattle.session.specs.declared.Part.{Part}
 use Rattle.session.specs.Session.{Session, Reading, next, silent, line_of, printed, further, reading, seen, started, Due, Reads}
@@ -25,23 +23,23 @@ module _ (x : Session) (b : ℕ) (rest : List ℕ) where
   unfolding reading
   reading_said e = rw e
 
-pub reading_none : (x : Session) → reading x [] ≡ record { session = x; used = 0; line = Nothing }
+pub reading_none : (x : Session) → reading x [] ≡ record { session = x; used = 0; line = None }
 unfolding reading
 reading_none x = refl
 
 -- ---- a piece's bytes and no others are used, and at least one if there is one
 
-within_by : (x : Session) (b : ℕ) (rest : List ℕ) (l : Line) → (next x b).line ≡ l → (reading (next x b).session rest).used ≤ length rest → (reading x (b ∷ rest)).used ≤ length (b ∷ rest)
-within_by x b rest Nothing e h = rw (reading_on x b rest (ap silent e)) (omega arith)
-within_by x b rest (Answered a) e h = rw (reading_said x b rest (ap silent e)) (omega arith)
+within_by : (x : Session) (b : ℕ) (rest : List ℕ) (l : Option Answer) → (next x b).line ≡ l → (reading (next x b).session rest).used ≤ length rest → (reading x (b ∷ rest)).used ≤ length (b ∷ rest)
+within_by x b rest None e h = rw (reading_on x b rest (ap silent e)) (omega arith)
+within_by x b rest (Some a) e h = rw (reading_said x b rest (ap silent e)) (omega arith)
 
 pub reading_within : (x : Session) (piece : List ℕ) → (reading x piece).used ≤ length piece
 reading_within x [] = rw reading_none (omega arith)
 reading_within x (b ∷ rest) = within_by x b rest (next x b).line refl (reading_within (next x b).session rest)
 
-some_by : (x : Session) (b : ℕ) (rest : List ℕ) (l : Line) → (next x b).line ≡ l → 1 ≤ (reading x (b ∷ rest)).used
-some_by x b rest Nothing e = rw (reading_on x b rest (ap silent e)) (omega arith)
-some_by x b rest (Answered a) e = rw (reading_said x b rest (ap silent e)) (omega arith)
+some_by : (x : Session) (b : ℕ) (rest : List ℕ) (l : Option Answer) → (next x b).line ≡ l → 1 ≤ (reading x (b ∷ rest)).used
+some_by x b rest None e = rw (reading_on x b rest (ap silent e)) (omega arith)
+some_by x b rest (Some a) e = rw (reading_said x b rest (ap silent e)) (omega arith)
 
 pub reading_some : (x : Session) (piece : List ℕ) → 1 ≤ length piece → 1 ≤ (reading x piece).used
 reading_some x [] h = absurd (none h)
@@ -66,12 +64,12 @@ drop_one n b l = let e : 1 + n ≡ suc n = omega arith in rw e
 abbrev pub left_over : List ℕ → List ℕ → Reading → List Answer
 left_over piece rest r = line_of r.line ++ printed r.session (drop r.used piece ++ rest)
 
-printed_by : (x : Session) (b : ℕ) (piece rest : List ℕ) (l : Line) → (next x b).line ≡ l
+printed_by : (x : Session) (b : ℕ) (piece rest : List ℕ) (l : Option Answer) → (next x b).line ≡ l
     → printed (next x b).session (piece ++ rest) ≡ left_over piece rest (reading (next x b).session piece)
     → printed x (b ∷ (piece ++ rest)) ≡ left_over (b ∷ piece) rest (reading x (b ∷ piece))
 unfolding printed
-printed_by x b piece rest Nothing e h = rw (reading_on x b piece (ap silent e), e, drop_one) h
-printed_by x b piece rest (Answered a) e h = rw (reading_said x b piece (ap silent e), e) refl
+printed_by x b piece rest None e h = rw (reading_on x b piece (ap silent e), e, drop_one) h
+printed_by x b piece rest (Some a) e h = rw (reading_said x b piece (ap silent e), e) refl
 
 pub reading_printed : (x : Session) (piece rest : List ℕ) → printed x (piece ++ rest) ≡ left_over piece rest (reading x piece)
 reading_printed x [] rest = rw reading_none refl

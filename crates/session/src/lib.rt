@@ -1,12 +1,13 @@
 // The replay of a session: records come in byte by byte, in pieces of any size, and each opening and each message's end gives a line.
 #![tactic(auto)]
 
-ghost use Rattle.std.specs.Prelude.{◌≡◌, true, ◌+◌, ◌≤◌, ◌<◌, length, take, replicate};
+ghost use Rattle.std.specs.Prelude.{◌≡◌, true, ◌+◌, ◌≤◌, length, take, replicate};
 ghost use Rattle.numbers.specs.Numbers.{refused};
+ghost use Rattle.numbers.specs.Refusals.{number_of};
 ghost use Rattle.session.specs.Session as S;
 
 use header::{HASHES, HEADER_SIZE};
-use numbers::{Answer, refusal};
+use numbers::{Answer, Refused};
 use tree::geometry::block_count;
 
 // Where a session stands. In a body: how many bytes are to come after the next one.
@@ -32,17 +33,11 @@ pub struct Progress {
     pub at: usize,
 }
 
-// What is to be printed.
-#[derive(Clone, Copy)]
-pub enum Line {
-    Nothing,
-    Answered(Answer),
-}
-
+// What a byte gives: where the session stands then, and the line that is to be printed, if there is one.
 #[derive(Clone, Copy)]
 pub struct Stepped {
     pub progress: Progress,
-    pub line: Line,
+    pub line: Option<Answer>,
 }
 
 // What a piece of the input gives: the line that its first `used` bytes end with, if there is one.
@@ -50,7 +45,7 @@ pub struct Stepped {
 pub struct Part {
     pub progress: Progress,
     pub used: usize,
-    pub line: Line,
+    pub line: Option<Answer>,
 }
 
 // The replay's own limits: the blocks of a file, and the hashes of a message.
@@ -76,8 +71,10 @@ fn goes(phase: Phase, at: usize) -> Stepped
     ensures { result ≡ S.goes_at phase at }
 {
     let progress = Progress { phase, at };
-    let line = Line::Nothing;
-    Stepped { progress, line }
+    Stepped {
+        progress,
+        line: None,
+    }
 }
 
 // A line, and nothing gathered.
@@ -85,18 +82,20 @@ fn says(phase: Phase, answer: Answer) -> Stepped
     ensures { result ≡ S.says_at phase answer }
 {
     let progress = Progress { phase, at: 0 };
-    let line = Line::Answered(answer);
-    Stepped { progress, line }
+    Stepped {
+        progress,
+        line: Some(answer),
+    }
 }
 
 // The last line before the end.
-fn stops(number: u32) -> Stepped
-    ensures { result ≡ S.says_at Phase.Stopped (refused number) }
+fn stops(why: Refused) -> Stepped
+    ensures { result ≡ S.says_at Phase.Stopped (refused (number_of why)) }
 {
-    says(Phase::Stopped, refusal(number))
+    says(Phase::Stopped, Answer::from(Err(why)))
 }
 
-// A kind byte outside a message.
+// A kind byte outside a message; `opened`: whether a store is.
 fn outside(opened: bool, store: &[u8], room: &mut [u8], kind: u8) -> Stepped
     requires { S.max_message ≤ length room.old }
     ensures { S.Follows (S.outside opened store.now kind) result store.now room.new }
@@ -109,9 +108,9 @@ fn outside(opened: bool, store: &[u8], room: &mut [u8], kind: u8) -> Stepped
             room[0] = HASHES;
             return goes(Phase::Body(47), 1);
         }
-        return stops(numbers::NO_MESSAGE);
+        return stops(Refused::NoMessage);
     }
-    stops(numbers::NO_MESSAGE)
+    stops(Refused::NoMessage)
 }
 
 // A kind byte inside a message, of which `at` bytes are gathered.
@@ -123,13 +122,13 @@ fn inside(store: &mut [u8], room: &[u8], at: usize, kind: u8) -> Stepped
         if at + 32 <= MAX_MESSAGE {
             return goes(Phase::Body(31), at);
         }
-        return stops(numbers::NO_MESSAGE);
+        return stops(Refused::NoMessage);
     }
     if kind == 4 {
         let answer = messages::take::take(store, &room[0..at]);
         return says(Phase::Open, answer);
     }
-    stops(numbers::NO_MESSAGE)
+    stops(Refused::NoMessage)
 }
 
 // A whole opening stands at the front of the room.
@@ -146,9 +145,9 @@ fn opening(store: &mut [u8], room: &[u8]) -> Stepped
         if answer.number == 0 {
             return says(Phase::Open, answer);
         }
-        return stops(numbers::FACTS_OUT_OF_RANGE);
+        return stops(Refused::FactsOutOfRange);
     }
-    stops(numbers::FACTS_OUT_OF_RANGE)
+    stops(Refused::FactsOutOfRange)
 }
 
 // The next byte of the input.
@@ -181,27 +180,18 @@ pub fn take_byte(progress: Progress, store: &mut [u8], room: &mut [u8], byte: u8
 }
 
 // The end of the input.
-pub fn end(progress: Progress) -> Line
+pub fn end(progress: Progress) -> Option<Answer>
     ensures { result ≡ S.ending progress.phase }
 {
     let phase = progress.phase;
-    let cut = refusal(numbers::NO_MESSAGE);
+    let cut = Answer::from(Err(Refused::NoMessage));
     match phase {
-        Phase::Fresh => Line::Nothing,
-        Phase::Open => Line::Nothing,
-        Phase::Opening(_) => Line::Answered(cut),
-        Phase::Inside => Line::Answered(cut),
-        Phase::Body(_) => Line::Answered(cut),
-        Phase::Stopped => Line::Nothing,
-    }
-}
-
-fn is_silent(line: Line) -> bool
-    ensures { result ≡ S.silent line }
-{
-    match line {
-        Line::Nothing => true,
-        Line::Answered(_) => false,
+        Phase::Fresh => None,
+        Phase::Open => None,
+        Phase::Opening(_) => Some(cut),
+        Phase::Inside => Some(cut),
+        Phase::Body(_) => Some(cut),
+        Phase::Stopped => None,
     }
 }
 
@@ -211,28 +201,21 @@ pub fn take_piece(progress: Progress, store: &mut [u8], room: &mut [u8], piece: 
     ensures { S.Reads (S.reading (S.seen progress store.old room.old) piece.now) result store.new room.new }
 {
     let mut q = progress;
-    let mut i: usize = 0;
-    while i < piece.len() {
-        let b = piece[i];
-        let f = take_byte(q, store, room, b);
-        let next = f.progress;
-        let line = f.line;
-        q = next;
-        i += 1;
-        let quiet = is_silent(line);
-        if !quiet {
+    for i in 0..piece.len() {
+        let f = take_byte(q, store, room, piece[i]);
+        q = f.progress;
+        if f.line.is_some() {
             return Part {
-                progress: next,
-                used: i,
-                line,
+                progress: q,
+                used: i + 1,
+                line: f.line,
             };
         }
     }
-    let line = Line::Nothing;
     Part {
         progress: q,
-        used: i,
-        line,
+        used: piece.len(),
+        line: None,
     }
 }
 

@@ -1,10 +1,9 @@
 -- What a subtree settles: as code meets it, how much, where, with which values, and each position with its family.
 -- All of it holds whatever `pair_hash` is. Assumes nothing.
 use Rattle.std.specs.Prelude.{◌≡◌, refl, List, ◌++◌, Bool, ◌&&◌, ◌⊎◌, ℕ, zero, suc, ◌+◌, ◌-◌, ◌*◌, ◌/◌, ◌^◌, ◌≤◌, ◌<◌, length}
-use Rattle.std.proofs.Common.{ap, ap₂, sym, ◌∙◌, inl, inr, add-mul, one-mul, mul_assoc, le_trans, mul-le-mul_left, mul-le-mul_right, le-mul_of_pos_right, length-append, pow_pos, pow_mono, pow-add, lt-ltb, le-ltb}
+use Rattle.std.proofs.Common.{ap, ap₂, sym, ◌∙◌, inl, inr, add-mul, one-mul, mul_assoc, le_trans, mul-le-mul_left, mul-le-mul_right, le-mul_of_pos_right, length-append, pow_pos, pow_mono, pow-add, lt-ltb, le-ltb, arith}
 use Rattle.std.proofs.Math.Nat.{pow-succ'}
 use Rattle.std.proofs.Math.Decide.{dec_lt}
-use native.Mathlib.Omega.{arith}
 use Rattle.octets.specs.Octets.{Octets, cut}
 use Rattle.octets.specs.OctetsLaws.{cut_length, cut_octets}
 use Rattle.sha256.specs.Sha256.{pair_hash}

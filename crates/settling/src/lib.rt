@@ -1,7 +1,7 @@
 // What a run of hashes, a piece's blocks and a path of uncles settle in a store: worked out, looked at, written.
 #![tactic(auto)]
 
-ghost use Rattle.std.specs.Prelude.{◌≡◌, ◌&&◌, ◌+◌, ◌*◌, ◌^◌, ◌≤◌, ◌<◌, length};
+ghost use Rattle.std.specs.Prelude.{List, ℕ, ◌≡◌, ◌&&◌, ◌+◌, ◌*◌, ◌^◌, ◌≤◌, ◌<◌, length};
 ghost use Rattle.tree.specs.Values.{node, leaf_of};
 ghost use Rattle.heaps.specs.Heaps.{hash_in, Parents, Worked};
 ghost use Rattle.cells.specs.Entries.{agrees, put_all, fresh};
@@ -36,10 +36,11 @@ pub struct Filled {
     pub new: u64,
 }
 
+// One value: written where it is used, && splits each of the four proofs in two.
 fn all_three(a: bool, b: bool, c: bool) -> bool
     ensures { result ≡ (a && b && c) }
 {
-    if a { if b { c } else { false } } else { false }
+    a && b && c
 }
 
 // Compares the subtree of `height` whose top is hash x of a heap with what is held, from position `top` on.
@@ -82,11 +83,35 @@ fn write_heap(store: &mut [u8], heap: &[u8], height: usize, top: usize, x: usize
     l + r + a
 }
 
-// Works out the subtree over the 2^`height` = m hashes of a run from number `index` * m on in a heap, and compares it.
-fn look_part(
-    store: &[u8],
-    run: &[u8],
+// What stands at the leaves of a subtree.
+trait Leaves {
+    ghost leaf: { Self → ℕ → List ℕ };
+
+    // Works out the heap over the m leaves from number j * m on.
+    fn fill(&self, heap: &mut [u8], m: usize, j: usize)
+        requires { (length heap.old ≡ 64 * m) × (1 ≤ m) × (j * m + m + 8 < 2 ^ 64) }
+        ensures { Worked (leaf self.now) m j heap.new };
+}
+
+// The hashes of a run, and `pad` behind its last one.
+#[derive(Clone, Copy)]
+struct Run<'a> {
+    run: &'a [u8],
     pad: [u8; 32],
+}
+
+impl Leaves for Run<'_> {
+    ghost leaf = { λ l. run_leaf l.run.now l.pad };
+
+    fn fill(&self, heap: &mut [u8], m: usize, j: usize) {
+        work(heap, self.run, self.pad, m, j);
+    }
+}
+
+// Works out the subtree over the 2^`height` = m leaves from number `index` * m on in a heap, and compares it.
+fn look_leaves<L: Leaves>(
+    store: &[u8],
+    leaves: &L,
     heap: &mut [u8],
     m: usize,
     height: usize,
@@ -94,14 +119,15 @@ fn look_part(
     index: usize,
 ) -> Seen
     requires { Fit (length store.now) height top index × (m ≡ 2 ^ height) × (length heap.old ≡ 64 * m) }
-    ensures { (result.hash ≡ node (run_leaf run.now pad) height index) × (result.agrees ≡ agrees store.now (subtree (run_leaf run.now pad) height top index)) × Worked (run_leaf run.now pad) m index heap.new }
+    ensures { (result.hash ≡ node (L.leaf leaves.now) height index) × (result.agrees ≡ agrees store.now (subtree (L.leaf leaves.now) height top index)) × Worked (L.leaf leaves.now) m index heap.new }
 {
-    work(heap, run, pad, m, index);
+    leaves.fill(heap, m, index);
     let hash = hash_at(&*heap, 32);
     let agrees = look_heap(store, &*heap, height, top, 1);
     Seen { hash, agrees }
 }
 
+// Looking and writing stay two functions: one is lent the store as `&`, the other as `&mut`, and they give other things back.
 // The subtree over such a part of a run, worked out in the heap; and every position of it becomes held.
 fn write_part(
     store: &mut [u8],
@@ -122,8 +148,43 @@ fn write_part(
     Filled { hash, new }
 }
 
-// Works out the subtree of `height` whose top is `top`, over a run of hashes, and compares it with what is held: in a room
+// Works out the subtree of `height` whose top is `top`, over such leaves, and compares it with what is held: in a room
 // for the heap over ROOM_LAYERS layers, where a subtree that is not higher stays; above those layer by layer.
+fn look<L: Leaves>(
+    store: &[u8],
+    leaves: &L,
+    room: &mut [u8],
+    height: usize,
+    top: usize,
+    index: usize,
+) -> Seen
+    requires { Fit (length store.now) height top index × (length room.old ≡ room_size) }
+    ensures { (result.hash ≡ node (L.leaf leaves.now) height index) × (result.agrees ≡ agrees store.now (subtree (L.leaf leaves.now) height top index)) × Heaped (L.leaf leaves.now) height index room.new }
+{
+    if height <= ROOM_LAYERS {
+        let m = 1 << height;
+        let size = 64 * m;
+        return look_leaves(store, leaves, &mut room[0..size], m, height, top, index);
+    }
+    let d = height - 1;
+    let n2 = 2 * top;
+    let j2 = 2 * index;
+    let n3 = n2 + 1;
+    let j3 = j2 + 1;
+    let l = look(store, leaves, room, d, n2, j2);
+    let r = look(store, leaves, room, d, n3, j3);
+    let lh = l.hash;
+    let rh = r.hash;
+    let h = pair(lh, rh);
+    let o = agrees_at(store, top, h);
+    let all = all_three(l.agrees, r.agrees, o);
+    Seen {
+        hash: h,
+        agrees: all,
+    }
+}
+
+// What `look` finds of a run of hashes.
 pub fn look_parts(
     store: &[u8],
     run: &[u8],
@@ -136,27 +197,8 @@ pub fn look_parts(
     requires { Fit (length store.now) height top index × (length room.old ≡ room_size) }
     ensures { (result.hash ≡ node (run_leaf run.now pad) height index) × (result.agrees ≡ agrees store.now (subtree (run_leaf run.now pad) height top index)) × Heaped (run_leaf run.now pad) height index room.new }
 {
-    if height <= ROOM_LAYERS {
-        let m = 1 << height;
-        let size = 64 * m;
-        return look_part(store, run, pad, &mut room[0..size], m, height, top, index);
-    }
-    let d = height - 1;
-    let n2 = 2 * top;
-    let j2 = 2 * index;
-    let n3 = n2 + 1;
-    let j3 = j2 + 1;
-    let l = look_parts(store, run, pad, room, d, n2, j2);
-    let r = look_parts(store, run, pad, room, d, n3, j3);
-    let lh = l.hash;
-    let rh = r.hash;
-    let h = pair(lh, rh);
-    let o = agrees_at(store, top, h);
-    let all = all_three(l.agrees, r.agrees, o);
-    Seen {
-        hash: h,
-        agrees: all,
-    }
+    let leaves = Run { run, pad };
+    look(store, &leaves, room, height, top, index)
 }
 
 // What look_parts finds of a run, in a room of its own.
@@ -183,8 +225,8 @@ fn load_eights(heap: &mut [u8], bytes: &[u8], m: usize, from: usize) -> usize
     ensures { Loaded (leaf_of bytes.now) m from result heap.new }
 {
     let blocks = bytes.len() / 16384;
-    let mut y: usize = 0;
-    while y + 8 <= m {
+    for i in 0..m / 8 {
+        let y = 8 * i;
         if blocks < from + y + 8 {
             return y;
         }
@@ -192,9 +234,8 @@ fn load_eights(heap: &mut [u8], bytes: &[u8], m: usize, from: usize) -> usize
         let end = at + 131072;
         let p = hash8(&bytes[at..end]);
         put8(heap, 32 * (m + y), p);
-        y += 8;
     }
-    y
+    8 * (m / 8)
 }
 
 // The leaves from number c on, one by one; past the bytes they are padding.
@@ -202,86 +243,37 @@ fn load_rest(heap: &mut [u8], bytes: &[u8], m: usize, from: usize, c: usize)
     requires { Loaded (leaf_of bytes.now) m from c heap.old × (from + m < 2 ^ 64) }
     ensures { Loaded (leaf_of bytes.now) m from m heap.new }
 {
-    let mut y = c;
-    while y < m {
+    for y in c..m {
         let h = leaf_of(bytes, from + y);
         put_hash(heap, 32 * (m + y), h);
-        y += 1;
     }
 }
 
-// The heap over the m blocks from number j * m on.
-fn work_blocks(heap: &mut [u8], bytes: &[u8], m: usize, j: usize)
-    requires { (length heap.old ≡ 64 * m) × (1 ≤ m) × (j * m + m + 8 < 2 ^ 64) }
-    ensures { Worked (leaf_of bytes.now) m j heap.new }
-{
-    let from = j * m;
-    let c = load_eights(heap, bytes, m, from);
-    load_rest(heap, bytes, m, from, c);
-    fill_heap(heap, m);
+// The blocks of a piece's bytes.
+#[derive(Clone, Copy)]
+struct Blocks<'a> {
+    bytes: &'a [u8],
 }
 
-// Works out the subtree over the 2^`height` = m blocks from number `index` * m on in a heap, and compares it.
-fn look_blocks(
-    store: &[u8],
-    bytes: &[u8],
-    heap: &mut [u8],
-    m: usize,
-    height: usize,
-    top: usize,
-    index: usize,
-) -> Seen
-    requires { Fit (length store.now) height top index × (m ≡ 2 ^ height) × (length heap.old ≡ 64 * m) }
-    ensures { (result.hash ≡ node (leaf_of bytes.now) height index) × (result.agrees ≡ agrees store.now (subtree (leaf_of bytes.now) height top index)) }
-{
-    work_blocks(heap, bytes, m, index);
-    let hash = hash_at(&*heap, 32);
-    let agrees = look_heap(store, &*heap, height, top, 1);
-    Seen { hash, agrees }
-}
+impl Leaves for Blocks<'_> {
+    ghost leaf = { λ l. leaf_of l.bytes.now };
 
-// Works out the subtree of `height` whose top is `top`, over the blocks of a piece's bytes, and compares it as look_parts does.
-fn look_pieces(
-    store: &[u8],
-    bytes: &[u8],
-    room: &mut [u8],
-    height: usize,
-    top: usize,
-    index: usize,
-) -> Seen
-    requires { Fit (length store.now) height top index × (length room.old ≡ room_size) }
-    ensures { (result.hash ≡ node (leaf_of bytes.now) height index) × (result.agrees ≡ agrees store.now (subtree (leaf_of bytes.now) height top index)) }
-{
-    if height <= ROOM_LAYERS {
-        let m = 1 << height;
-        let size = 64 * m;
-        return look_blocks(store, bytes, &mut room[0..size], m, height, top, index);
-    }
-    let d = height - 1;
-    let n2 = 2 * top;
-    let j2 = 2 * index;
-    let n3 = n2 + 1;
-    let j3 = j2 + 1;
-    let l = look_pieces(store, bytes, room, d, n2, j2);
-    let r = look_pieces(store, bytes, room, d, n3, j3);
-    let lh = l.hash;
-    let rh = r.hash;
-    let h = pair(lh, rh);
-    let o = agrees_at(store, top, h);
-    let all = all_three(l.agrees, r.agrees, o);
-    Seen {
-        hash: h,
-        agrees: all,
+    fn fill(&self, heap: &mut [u8], m: usize, j: usize) {
+        let from = j * m;
+        let c = load_eights(heap, self.bytes, m, from);
+        load_rest(heap, self.bytes, m, from, c);
+        fill_heap(heap, m);
     }
 }
 
-// What look_pieces finds of a piece's bytes, in a room of its own.
+// What `look` finds of a piece's bytes, in a room of its own.
 pub fn look_data(store: &[u8], bytes: &[u8], height: usize, top: usize, index: usize) -> Seen
     requires { Fit (length store.now) height top index }
     ensures { (result.hash ≡ node (leaf_of bytes.now) height index) × (result.agrees ≡ agrees store.now (subtree (leaf_of bytes.now) height top index)) }
 {
     let mut room = [0u8; ROOM_SIZE];
-    look_pieces(store, bytes, &mut room, height, top, index)
+    let leaves = Blocks { bytes };
+    look(store, &leaves, &mut room, height, top, index)
 }
 
 // Every position of that subtree over a run becomes held.

@@ -1,16 +1,13 @@
 -- A message and a pair of hashes as the code cuts them into blocks.
 -- Assumes nothing.
-use mathlib.Core.Path.{◌≡◌, refl, ap, ◌∙◌}
-use mathlib.Core.List.{List, [], ◌++◌, append-nil}
-use Prim.Native.Nat.{ℕ, ◌+◌, ◌-◌, ◌/◌, ◌%◌}
-use native.Mathlib.Omega.{arith}
-use lib.ListN.{length, take, drop, length-append, length-drop, drop_of_length-le}
-use lib.Seq.{take_all, take_at}
-use Rattle.octets.specs.Octets.{pasted}
+use Rattle.std.specs.Prelude.{◌≡◌, replicate, List, [], ◌++◌, ℕ, ◌+◌, length, take, drop}
+use Rattle.std.proofs.Common.{ap, div-one, ◌∙◌, append-nil, arith, length-append, length-drop, drop_of_length-le, take_all, take_at}
+use Rattle.octets.specs.Octets.{pasted, be}
+use Rattle.std.specs.Int.{to_be_bytes, w32}
 use Rattle.constants.specs.Constants.{K}
 use Rattle.padding.specs.Padding.{padding}
-use Rattle.padding.specs.Cutting.{over_blocks, over_message}
-use Rattle.padding.specs.CuttingLaws.{message_split, message_of_64}
+use Rattle.padding.specs.Cutting.{over_message}
+use Rattle.padding.specs.CuttingLaws.{message_of_64}
 use Rattle.rounds.specs.Block.{schedule, plus, compress}
 use Rattle.rounds.specs.Sums.{sums, rounds_by}
 use Rattle.rounds.specs.SumsLaws.{compress_by_sums}
@@ -43,19 +40,9 @@ pair_law k x b l r z t ek ex eb ez lb et =
     let e : over_message (compress K) start b ≡ over_message (compress K) start (l ++ r) = ap (over_message (compress K) start) eb in
     cc (compress_by_sums K (padding 64) t, message_of_64 (compress K) b start lb)
 
--- the whole blocks of a message, and its last bytes with the padding, are the message
-pub hash_law :
-    (k m : List ℕ) (t z : State)
-    → k ≡ K
-    → z ≡ start
-    → t ≡ over_blocks (compress k) (length m / 64) z m
-    → let at : ℕ = length m - length m % 64 in
-    let rest : List ℕ = take (length m - at) (drop at m) in
-    over_blocks (compress k) (length (rest ++ padding (length m)) / 64) t (rest ++ padding (length m)) ≡ over_message (compress K) start m
-hash_law k m t z ek ez et =
-    let at : ℕ = length m - length m % 64 in
-    let e : take (length m - at) (drop at m) ≡ drop at m = take_all (length m - at) (drop at m) (omega (arith, length-drop at m)) in
-    ap (λ (l : List ℕ). over_blocks (compress k) (length (l ++ padding (length m)) / 64) t (l ++ padding (length m))) e
-    ∙ ap (λ (s : State). over_blocks (compress k) (length (drop at m ++ padding (length m)) / 64) s (drop at m ++ padding (length m))) et
-    ∙ message_split (compress k) m z at refl
-    ∙ cc
+-- the eight words put one after the other
+pub words_put : (a b c d e f g h : ℕ) →
+    pasted (pasted (pasted (pasted (pasted (pasted (pasted (pasted (replicate 32 0) 0 (to_be_bytes w32 a)) 4 (to_be_bytes w32 b)) 8 (to_be_bytes w32 c)) 12 (to_be_bytes w32 d)) 16 (to_be_bytes w32 e)) 20 (to_be_bytes w32 f)) 24 (to_be_bytes w32 g)) 28 (to_be_bytes w32 h)
+    ≡ be 4 a ++ (be 4 b ++ (be 4 c ++ (be 4 d ++ (be 4 e ++ (be 4 f ++ (be 4 g ++ be 4 h))))))
+unfolding pasted
+words_put a b c d e f g h = simp div-one

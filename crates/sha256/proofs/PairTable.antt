@@ -1,9 +1,7 @@
 -- The code's table for the second block of a pair is the standard's schedule of that block with the round words added, which antt
 -- computes over all entries at once.
 -- Assumes nothing.
-use mathlib.Core.Path.{◌≡◌, refl}
-use mathlib.Core.List.{List, [], ◌∷◌}
-use Prim.Native.Nat.{ℕ}
+use Rattle.std.specs.Prelude.{◌≡◌, refl, List, [], ◌∷◌, ℕ}
 use Rattle.bits.specs.Words.{rotr, σ₀, σ₁}
 use Rattle.constants.specs.Constants.{root, indivisible, primes_from, primes, root_word, K}
 use Rattle.padding.specs.Padding.{padding, zeros}

@@ -1,15 +1,15 @@
 // SHA-256 (FIPS 180-4, section 6.2): the hash of a slice, and of a pair of hashes.
 #![tactic(auto)]
 
-ghost use Rattle.std.specs.Prelude.{◌≡◌, ◌/◌, ◌%◌, ◌++◌, length};
+ghost use Rattle.std.specs.Prelude.{◌≡◌, ◌++◌};
 ghost use Rattle.constants.specs.Constants.{K};
 ghost use Rattle.padding.specs.Padding as P;
-ghost use Rattle.padding.specs.Cutting.{over_blocks};
 ghost use Rattle.rounds.specs.Block as B;
 ghost use Rattle.rounds.specs.Sums.{sums};
 ghost use Rattle.sha256.specs.Sha256 as S;
 ghost use Rattle.sha256.specs.Answer.{hashed_of};
 
+use padding::Rounds;
 use rounds::{State, compress, compress_sums};
 
 // A hash, or the number that says why there is none.
@@ -35,69 +35,35 @@ pub fn start() -> State
     }
 }
 
-// The whole blocks of `bytes`.
-pub fn whole_blocks(state: State, k: &[u32; 64], bytes: &[u8]) -> State
-    ensures { result ≡ over_blocks (B.compress k.now) (length bytes.now / 64) state bytes.now }
-{
-    let mut t = state;
-    let mut at: usize = 0;
-    while 64 <= bytes.len() - at {
-        t = compress(t, k, bytes, at);
-        at += 64;
-    }
-    t
+// SHA-256's rounds, with the round words.
+#[derive(Clone, Copy)]
+pub struct RoundWords<'a> {
+    pub k: &'a [u32; 64],
 }
 
-// The last one or two blocks of a message of `total` bytes, whose last bytes are `bytes`.
-pub fn finish(state: State, k: &[u32; 64], bytes: &[u8], total: u64) -> State
-    requires { length bytes.now ≡ total % 64 }
-    ensures { result ≡ over_blocks (B.compress k.now) (length (bytes.now ++ P.padding total) / 64) state (bytes.now ++ P.padding total) }
-{
-    let b = padding::pad(bytes, total);
-    let t = compress(state, k, &b, 0);
-    if bytes.len() < 56 {
-        return t;
+impl<'a> Rounds for RoundWords<'a> {
+    type State = State;
+
+    ghost taken = { λ rounds. B.compress rounds.k.now };
+
+    fn take(&self, state: State, bytes: &[u8], at: usize) -> State {
+        compress(state, self.k, bytes, at)
     }
-    compress(t, k, &b, 64)
 }
 
 pub fn digest(state: State) -> [u8; 32]
     ensures { result ≡ S.digest state }
 {
-    [
-        ((state.a >> 24) % 256) as u8,
-        ((state.a >> 16) % 256) as u8,
-        ((state.a >> 8) % 256) as u8,
-        (state.a % 256) as u8,
-        ((state.b >> 24) % 256) as u8,
-        ((state.b >> 16) % 256) as u8,
-        ((state.b >> 8) % 256) as u8,
-        (state.b % 256) as u8,
-        ((state.c >> 24) % 256) as u8,
-        ((state.c >> 16) % 256) as u8,
-        ((state.c >> 8) % 256) as u8,
-        (state.c % 256) as u8,
-        ((state.d >> 24) % 256) as u8,
-        ((state.d >> 16) % 256) as u8,
-        ((state.d >> 8) % 256) as u8,
-        (state.d % 256) as u8,
-        ((state.e >> 24) % 256) as u8,
-        ((state.e >> 16) % 256) as u8,
-        ((state.e >> 8) % 256) as u8,
-        (state.e % 256) as u8,
-        ((state.f >> 24) % 256) as u8,
-        ((state.f >> 16) % 256) as u8,
-        ((state.f >> 8) % 256) as u8,
-        (state.f % 256) as u8,
-        ((state.g >> 24) % 256) as u8,
-        ((state.g >> 16) % 256) as u8,
-        ((state.g >> 8) % 256) as u8,
-        (state.g % 256) as u8,
-        ((state.h >> 24) % 256) as u8,
-        ((state.h >> 16) % 256) as u8,
-        ((state.h >> 8) % 256) as u8,
-        (state.h % 256) as u8,
-    ]
+    let mut b = [0u8; 32];
+    octets::put_hash(&mut b, 0, state.a.to_be_bytes());
+    octets::put_hash(&mut b, 4, state.b.to_be_bytes());
+    octets::put_hash(&mut b, 8, state.c.to_be_bytes());
+    octets::put_hash(&mut b, 12, state.d.to_be_bytes());
+    octets::put_hash(&mut b, 16, state.e.to_be_bytes());
+    octets::put_hash(&mut b, 20, state.f.to_be_bytes());
+    octets::put_hash(&mut b, 24, state.g.to_be_bytes());
+    octets::put_hash(&mut b, 28, state.h.to_be_bytes());
+    b
 }
 
 // The hash of `bytes`. (A slice too long for the standard is hashed with its count of bits modulo 2^64.)
@@ -105,11 +71,7 @@ pub fn hash(bytes: &[u8]) -> [u8; 32]
     ensures { result ≡ S.sha256 bytes.now }
 {
     let k = constants::round_words();
-    let t = whole_blocks(start(), &k, bytes);
-    let n = bytes.len();
-    let at = n - n % 64;
-    let rest = &bytes[at..];
-    digest(finish(t, &k, rest, n as u64))
+    digest(padding::over(&RoundWords { k: &k }, start(), bytes))
 }
 
 // The hash of `bytes`; 4 above the longest string that has one.

@@ -1,17 +1,16 @@
 -- A message as the code takes it: its whole blocks, then its last bytes with the padding; and with zeros behind it: the block of its last bytes
 -- filled up with zeros, then blocks of zeros.
 -- Assumes nothing.
-use mathlib.Core.Path.{◌≡◌, ap, sym, ◌∙◌}
-use mathlib.Core.List.{List, ◌++◌}
-use Prim.Native.Nat.{ℕ, ◌+◌, ◌-◌, ◌*◌, ◌/◌, ◌%◌, ◌<◌, ◌≤◌}
-use native.Mathlib.Omega.{arith}
-use lib.ListN.{length, take, drop, replicate, length-drop}
-use lib.Seq.{take_all, take-append-add}
+use Rattle.std.specs.Prelude.{◌≡◌, List, ◌++◌, ℕ, ◌+◌, ◌-◌, ◌*◌, ◌/◌, ◌%◌, ◌<◌, ◌≤◌, length, take, drop, replicate}
+use Rattle.std.proofs.Common.{ap, div-one, sym, ◌∙◌, arith, length-drop, take_all}
+use Rattle.std.proofs.Math.Seq.{take-append-add}
+use Rattle.std.specs.Int.{to_be_bytes, w32}
+use Rattle.octets.specs.Octets.{pasted, be}
 use Rattle.octets.specs.OctetsLaws.{zeros_front}
 use Rattle.padding.specs.Padding.{padding}
 use Rattle.padding.specs.Cutting.{over_blocks, over_message}
-use Rattle.padding.specs.Running.{whole_blocks, past_blocks, tail_array, running_of, running_end}
-use Rattle.padding.specs.RunningLaws.{past_size, running_end_lem}
+use Rattle.padding.specs.Running.{past_blocks, tail_array}
+use Rattle.padding.specs.RunningLaws.{past_size}
 use Rattle.padding.specs.ZerosLaws.{few_zeros, many_zeros}
 use Rattle.rounds1.specs.Block.{compress}
 use Rattle.rounds1.specs.declared.Five.{Five}
@@ -25,22 +24,6 @@ past_part s part e =
     e
     ∙ take_all (length s - (length s - length s % 64)) (drop (length s - length s % 64) s) (omega (arith, length-drop (length s - length s % 64) s))
     ∙ ap (λ (j : ℕ). drop j s) at
-
--- the message's whole blocks, and its last bytes with the padding
-pub whole_law :
-    (s part : List ℕ) (z t : Five)
-    → part ≡ take (length s - (length s - length s % 64)) (drop (length s - length s % 64) s)
-    → z ≡ start
-    → t ≡ over_blocks compress (length s / 64) z s
-    → over_blocks compress (length (part ++ padding (length s)) / 64) t (part ++ padding (length s)) ≡ over_message compress start s
-unfolding running_of running_end whole_blocks
-whole_law s part z t ep ez et =
-    let e : part ≡ past_blocks s = past_part s part ep in
-    let m : over_message compress start s ≡ over_message compress z s = ap (λ (q : Five). over_message compress q s) (sym ez) in
-    ap (λ (l : List ℕ). over_blocks compress (length (l ++ padding (length s)) / 64) t (l ++ padding (length s))) e
-    ∙ ap (λ (q : Five). over_blocks compress (length (past_blocks s ++ padding (length s)) / 64) q (past_blocks s ++ padding (length s))) et
-    ∙ running_end_lem compress z s
-    ∙ sym m
 
 module _ (s part block : List ℕ) (z t : Five) (n : ℕ)
     (ep : part ≡ take (length s - (length s - length s % 64)) (drop (length s - length s % 64) s))
@@ -81,3 +64,10 @@ module _ (s part block : List ℕ) (z t : Five) (n : ℕ)
   many_law x u v h eu ev ex =
       many_zeros compress start t s n from_start (omega arith) block x u v filled eu ev
       (ex ∙ zeros_front 64 ((n - (64 - length s % 64)) % 64) (omega arith))
+
+-- the five words put one after the other
+pub words_put : (a b c d e : ℕ) →
+    pasted (pasted (pasted (pasted (pasted (replicate 20 0) 0 (to_be_bytes w32 a)) 4 (to_be_bytes w32 b)) 8 (to_be_bytes w32 c)) 12 (to_be_bytes w32 d)) 16 (to_be_bytes w32 e)
+    ≡ be 4 a ++ (be 4 b ++ (be 4 c ++ (be 4 d ++ be 4 e)))
+unfolding pasted
+words_put a b c d e = simp div-one

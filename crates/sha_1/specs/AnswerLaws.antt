@@ -4,8 +4,7 @@ use Rattle.std.specs.Prelude.{◌≡◌, Bool, List, ◌↔◌, ℕ, suc, ◌<�
 use Rattle.std.proofs.Math.Path.{refl}
 use Rattle.std.proofs.Math.Bool.{true, false, cond}
 use Rattle.std.proofs.Math.Logic.{inl, inr}
-use Rattle.std.proofs.Common.{arith}
-use borrow.Author.Tests.{lt-ltb, le-ltb, ltb-false}
+use Rattle.std.proofs.Common.{arith, lt-ltb, le-ltb, ltb-false}
 use Rattle.numbers.specs.Numbers.{wrong_size, InTable}
 use Rattle.numbers.specs.Tests.{either}
 use Rattle.numbers.specs.Chain.{Chain, last, test, decided, in_table_of}

@@ -3,12 +3,12 @@
 
 ghost use Rattle.std.specs.Prelude.{◌≡◌, ◌+◌, ◌/◌, ◌%◌, ◌^◌, ◌<◌, ◌++◌, length, replicate};
 ghost use Rattle.octets.specs.Octets as O;
-ghost use Rattle.padding.specs.Padding as P;
 ghost use Rattle.padding.specs.Cutting.{over_blocks};
 ghost use Rattle.rounds1.specs.Block as B;
 ghost use Rattle.sha_1.specs.Sha1 as S;
 ghost use Rattle.sha_1.specs.Answer.{sha1_of};
 
+use padding::Rounds;
 use rounds1::{Five, compress};
 
 // A hash, or the number that says why there is none.
@@ -31,68 +31,36 @@ fn start() -> Five
     }
 }
 
-// The whole blocks of `bytes`.
-fn whole_blocks(state: Five, bytes: &[u8]) -> Five
-    ensures { result ≡ over_blocks B.compress (length bytes.now / 64) state bytes.now }
-{
-    let mut t = state;
-    let mut at: usize = 0;
-    while 64 <= bytes.len() - at {
-        t = compress(t, bytes, at);
-        at += 64;
-    }
-    t
-}
+// SHA-1's rounds.
+struct Twenties;
 
-// The last one or two blocks of a message of `total` bytes, whose last bytes are `bytes`.
-fn finish(state: Five, bytes: &[u8], total: u64) -> Five
-    requires { length bytes.now ≡ total % 64 }
-    ensures { result ≡ over_blocks B.compress (length (bytes.now ++ P.padding total) / 64) state (bytes.now ++ P.padding total) }
-{
-    let b = padding::pad(bytes, total);
-    let t = compress(state, &b, 0);
-    if bytes.len() < 56 {
-        return t;
+impl Rounds for Twenties {
+    type State = Five;
+
+    ghost taken = { λ rounds. B.compress };
+
+    fn take(&self, state: Five, bytes: &[u8], at: usize) -> Five {
+        compress(state, bytes, at)
     }
-    compress(t, &b, 64)
 }
 
 fn digest(state: Five) -> [u8; 20]
     ensures { result ≡ S.digest state }
 {
-    [
-        ((state.a >> 24) % 256) as u8,
-        ((state.a >> 16) % 256) as u8,
-        ((state.a >> 8) % 256) as u8,
-        (state.a % 256) as u8,
-        ((state.b >> 24) % 256) as u8,
-        ((state.b >> 16) % 256) as u8,
-        ((state.b >> 8) % 256) as u8,
-        (state.b % 256) as u8,
-        ((state.c >> 24) % 256) as u8,
-        ((state.c >> 16) % 256) as u8,
-        ((state.c >> 8) % 256) as u8,
-        (state.c % 256) as u8,
-        ((state.d >> 24) % 256) as u8,
-        ((state.d >> 16) % 256) as u8,
-        ((state.d >> 8) % 256) as u8,
-        (state.d % 256) as u8,
-        ((state.e >> 24) % 256) as u8,
-        ((state.e >> 16) % 256) as u8,
-        ((state.e >> 8) % 256) as u8,
-        (state.e % 256) as u8,
-    ]
+    let mut b = [0u8; 20];
+    octets::put_hash(&mut b, 0, state.a.to_be_bytes());
+    octets::put_hash(&mut b, 4, state.b.to_be_bytes());
+    octets::put_hash(&mut b, 8, state.c.to_be_bytes());
+    octets::put_hash(&mut b, 12, state.d.to_be_bytes());
+    octets::put_hash(&mut b, 16, state.e.to_be_bytes());
+    b
 }
 
 // The hash of `bytes`. (A slice too long for the standard is hashed with its count of bits modulo 2^64.)
 pub fn hash(bytes: &[u8]) -> [u8; 20]
     ensures { result ≡ S.sha1 bytes.now }
 {
-    let t = whole_blocks(start(), bytes);
-    let n = bytes.len();
-    let at = n - n % 64;
-    let rest = &bytes[at..];
-    digest(finish(t, rest, n as u64))
+    digest(padding::over(&Twenties, start(), bytes))
 }
 
 // The hash of `bytes`; 4 above the longest string that has one.
@@ -116,10 +84,8 @@ fn zero_blocks(state: Five, zeros: usize) -> Five
 {
     let none = [0u8; 64];
     let mut t = state;
-    let mut at: usize = 0;
-    while 64 <= zeros - at {
+    for _i in 0..zeros / 64 {
         t = compress(t, &none, 0);
-        at += 64;
     }
     t
 }
@@ -129,7 +95,7 @@ pub fn hash_with_zeros(bytes: &[u8], zeros: usize) -> [u8; 20]
     requires { length bytes.now + zeros < 2 ^ 64 }
     ensures { result ≡ S.sha1 (bytes.now ++ replicate zeros 0) }
 {
-    let t = whole_blocks(start(), bytes);
+    let t = padding::whole_blocks(&Twenties, start(), bytes);
     let n = bytes.len();
     let total = n + zeros;
     let left = n % 64;
@@ -139,25 +105,18 @@ pub fn hash_with_zeros(bytes: &[u8], zeros: usize) -> [u8; 20]
     let room = 64 - left;
     if zeros < room {
         let size = left + zeros;
-        return digest(finish(t, &block[0..size], total as u64));
+        return digest(padding::finish(&Twenties, t, &block[0..size], total as u64));
     }
     let u = compress(t, &block, 0);
     let more = zeros - room;
     let v = zero_blocks(u, more);
     let size = more % 64;
-    digest(finish(v, &none[0..size], total as u64))
+    digest(padding::finish(&Twenties, v, &none[0..size], total as u64))
 }
 
 // Whether two hashes are the same, all bytes compared. The one place where hashes of 20 bytes are compared.
 pub fn same(one: [u8; 20], other: [u8; 20]) -> bool
     ensures { result ≡ O.same one other }
 {
-    let mut i = 0;
-    while i < 20 {
-        if one[i] != other[i] {
-            return false;
-        }
-        i += 1;
-    }
-    true
+    octets::same(one, other)
 }

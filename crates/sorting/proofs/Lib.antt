@@ -1,5 +1,4 @@
 pub mod Telling
-pub mod Copying
 pub mod Merging
 pub mod Thinning
 pub mod Narrowing

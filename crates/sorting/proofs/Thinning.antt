@@ -1,15 +1,8 @@
 -- Of sorted positions the first of each string kept in place, as the loop does it; and the array that was lent for it, back.
 -- Assumes nothing.
-use mathlib.Core.Path.{◌≡◌, refl, sym, ap, ap₂, subst, ◌∙◌}
-use mathlib.Core.Bool.{Bool, true, false, cond}
-use mathlib.Core.List.{List, [], ◌∷◌, ◌++◌, append_assoc, append-nil}
-use Prim.Native.Nat.{ℕ, ◌+◌, ◌-◌, ◌≤◌, ◌<◌, min}
-use native.Mathlib.Omega.{arith}
-use native.Mathlib.Numerals.{add-one}
-use native.Mathlib.Decide.{ℕ_discrete}
-use lib.ListN.{length, get_or, set, take, drop, length-take, length-set, drop_of_length-le, take-append-drop}
-use lib.Dec.{ltb}
-use lib.Seq.{drop-cons, get_or-take, get_or-drop, drop-drop, take_at, take-suc-set, drop-set-lt, drop_at, get_or-set_same, get_or-set_other, length-take-le}
+use Rattle.std.specs.Prelude.{◌≡◌, refl, Bool, true, false, cond, List, [], ◌∷◌, ◌++◌, ℕ, ◌+◌, ◌-◌, ◌≤◌, ◌<◌, min, length, get_or, set, take, drop, ltb}
+use Rattle.std.proofs.Common.{sym, ap, ap₂, subst, ◌∙◌, append_assoc, append-nil, arith, add-one, length-take, length-set, drop_of_length-le, take-append-drop, drop-cons, get_or-take, get_or-drop, drop-drop, take_at, take-suc-set, drop-set-lt, drop_at, get_or-set_same, get_or-set_other, length-take-le}
+use Rattle.std.proofs.Math.Decide.{ℕ_discrete}
 use Rattle.octets.specs.Octets.{cut}
 use Rattle.bencode.specs.Grammar.{precedes}
 use Rattle.sorting.specs.Sorting.{Fit, lower, sorted, thinned_from, thinned}

@@ -1,3 +1,4 @@
+pub mod Standing
 pub mod SortedBy
 pub mod Merged
 pub mod Sorting

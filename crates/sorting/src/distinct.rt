@@ -2,7 +2,7 @@
 ghost use Rattle.std.specs.Prelude.{◌≡◌, ℕ, ◌+◌, ◌-◌, ◌≤◌, ◌<◌, length, take, drop, get_or, set, ltb, cond, ◌++◌};
 ghost use Rattle.sorting.specs.Sorting.{Fit, lower, sorted, thinned};
 
-use crate::compare::{before, index};
+use crate::compare::{ByString, before, index};
 use crate::sort::sort;
 
 // Position i goes behind the `kept` ones, if its string stands behind the last of theirs; how many are kept then.
@@ -28,10 +28,8 @@ fn thin(bytes: &[u8], at: &mut [u32]) -> usize
         return 0;
     }
     let mut kept = 1;
-    let mut i = 1;
-    while i < at.len() {
+    for i in 1..at.len() {
         kept = keep(bytes, at, kept, i);
-        i += 1;
     }
     kept
 }
@@ -41,6 +39,6 @@ pub fn once_each(bytes: &[u8], at: &mut [u32], room: &mut [u32], count: usize) -
     requires { (count ≤ length at.old) × (count ≤ length room.old) × ((i : ℕ) → i < count → get_or at.old i 0 + 32 ≤ length bytes.now) }
     ensures { (result ≡ length (thinned bytes.now (sorted bytes.now (take count at.old)))) × (at.new ≡ (thinned bytes.now (sorted bytes.now (take count at.old)) ++ drop result (sorted bytes.now (take count at.old))) ++ drop count at.old) × (room.new ≡ cond (ltb count 2) room.old (sorted bytes.now (take count at.old) ++ drop count room.old)) }
 {
-    sort(bytes, &mut at[0..count], &mut room[0..count], count);
+    sort(&ByString { bytes }, &mut at[0..count], &mut room[0..count]);
     thin(bytes, &mut at[0..count])
 }

@@ -11,6 +11,7 @@ pub fn search(bytes: &[u8], at: &[u32], count: usize, key: &[u8]) -> usize
 {
     let mut low = 0;
     let mut high = count;
+    // A `while`: what is left is halved.
     while low < high {
         let middle = low + (high - low) / 2;
         let p = index(at[middle]);

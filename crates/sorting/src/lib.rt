@@ -5,3 +5,5 @@ mod compare;
 pub mod distinct;
 pub mod halving;
 pub mod sort;
+
+pub use compare::index;

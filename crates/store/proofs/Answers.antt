@@ -1,24 +1,17 @@
 -- What each function answers, from what its callees ensure and the tests it took: every answer is one case of the definition.
-use mathlib.Core.Path.{◌≡◌, ap, ap₂, sym, ◌∙◌}
-use mathlib.Core.List.{List, ◌++◌, append_assoc}
-use mathlib.Core.Bool.{Bool, true, false}
-use Prim.Native.Nat.{ℕ, ◌+◌, ◌-◌, ◌*◌, ◌%◌, ◌^◌, ◌≤◌, ◌<◌}
-use native.Mathlib.Omega.{arith}
-use lib.ListN.{length}
-use lib.Dec.{leb, ltb}
-use lib.Pow.{shl_exact, pow_mono}
-use borrow.Author.Tests.{le-leb}
+use Rattle.std.specs.Prelude.{◌≡◌, refl, cond, List, ◌++◌, Bool, true, false, ℕ, ◌+◌, ◌-◌, ◌*◌, ◌%◌, ◌^◌, ◌≤◌, ◌<◌, length, leb, ltb}
+use Rattle.std.proofs.Common.{ap, ap₂, sym, ◌∙◌, append_assoc, arith, shl_exact, pow_mono, le-leb}
 use Rattle.octets.specs.Octets.{pasted, be, zeroed}
 use Rattle.octets.specs.OctetsLaws.{pasted_append, zeroed_length}
-use Rattle.numbers.specs.Numbers.{refused, done, rule_broken, no_anchor, unusable}
+use Rattle.numbers.specs.Numbers.{refused, done, rule_broken, no_anchor, unusable, facts_out_of_range}
 use Rattle.numbers.specs.declared.Answer.{Answer}
 use Rattle.sha256.specs.declared.Hashed.{Hashed}
 use Rattle.tree.specs.Geometry.{block_count, height, node_number}
 use Rattle.tree.proofs.GeometryLaws.{shifted_one}
 use Rattle.cells.specs.Cells.{Room, held_at, hash_at, put}
 use Rattle.limits.specs.Limits.{longest_file, tallest_tree}
-use Rattle.store.specs.Store.{file_length, piece_length, height_of, positions, facts_in_range, store_size, usable, opened, open_answer, open_after, in_tree, no_hash, held_answer, Facts}
-use Rattle.store.specs.StoreLaws.{usable_facts, facts_cell, height_most, held_given, held_not, held_outside, open_done, open_short, positions_most, positions_some, tree_number_lem, usable_not, usable_room}
+use Rattle.store.specs.Store.{file_length, piece_length, height_of, positions, facts_in_range, store_size, usable, opened, size_answer, open_answer, open_after, in_tree, no_hash, held_answer, Facts}
+use Rattle.store.specs.StoreLaws.{usable_facts, facts_cell, open_facts, height_most, held_given, held_not, held_outside, open_done, open_short, positions_most, positions_some, tree_number_lem, usable_not, usable_room}
 
 -- ---- the size
 
@@ -82,6 +75,25 @@ opened_by s s1 s2 s3 s4 s5 size n plen root a l r e1 e2 e3 e4 e5 =
     pasted_append (zeroed s size) 0 (be 8 n ++ be 4 plen) root (omega arith) in
     let g : be 8 n ++ be 4 plen ++ root ≡ be 8 n ++ (be 4 plen ++ root) = append_assoc (be 8 n) (be 4 plen) root in
     e5 ∙ ap (λ (t : List ℕ). put t 1 root) (e4 ∙ ap (λ (t : List ℕ). pasted t 12 root) (e3 ∙ ap (λ (t : List ℕ). pasted t 8 (be 4 plen)) (e2 ∙ ap (λ (t : List ℕ). pasted t 0 (be 8 n)) e1) ∙ p) ∙ q ∙ ap (λ (t : List ℕ). pasted (zeroed s size) 0 t) g)
+
+-- where the size is answered, the facts are in range, and it is the store's
+pub open_size : (n plen z : ℕ) → done z ≡ size_answer n plen → (facts_in_range n plen ≡ true) × (z ≡ store_size n)
+unfolding size_answer
+open_size n plen z e = by (facts_in_range n plen) e
+  where
+    by : (b : Bool) → done z ≡ cond b (done (store_size n)) (refused facts_out_of_range) → (b ≡ true) × (z ≡ store_size n)
+    by true e = (refl, ap (λ (r : Answer). r.count) e)
+    by false e = let w : 0 ≡ facts_out_of_range = ap (λ (r : Answer). r.number) e in absurd (omega (arith, w))
+
+-- where it is refused, opening is refused the same, and leaves the bytes
+pub open_refused : (s : List ℕ) (n plen : ℕ) (root : List ℕ) (k : ℕ) → refused k ≡ size_answer n plen → (k ≡ 0 → ⊥)
+    → (refused k ≡ open_answer s n plen) × (s ≡ open_after s n plen root)
+unfolding size_answer
+open_refused s n plen root k e z = by (facts_in_range n plen) refl e
+  where
+    by : (b : Bool) → facts_in_range n plen ≡ b → refused k ≡ cond b (done (store_size n)) (refused facts_out_of_range) → (refused k ≡ open_answer s n plen) × (s ≡ open_after s n plen root)
+    by true f e = absurd (z (ap (λ (r : Answer). r.number) e))
+    by false f e = let p = open_facts s n plen root f in (e ∙ p.0, p.1)
 
 -- done, with the count 1
 pub open_by : (s s' : List ℕ) (n plen z : ℕ) (root : List ℕ) (r : Answer) → facts_in_range n plen ≡ true → z ≡ store_size n → z ≤ length s

@@ -1,9 +1,11 @@
 -- 01, "The store", and docs/LAYOUT.md: the facts, whether a buffer is a store, its size, opening one, asking for a held hash.
 -- Assumes nothing.
-use Rattle.std.specs.Prelude.{List, ◌++◌, Bool, true, cond, ◌&&◌, ◌≡◌, ℕ, ◌+◌, ◌-◌, ◌*◌, ◌^◌, ◌≤◌, length, leb, ltb}
+use Rattle.std.specs.Prelude.{List, Result, Ok, Err, ◌++◌, Bool, true, cond, ◌&&◌, ◌≡◌, ℕ, ◌+◌, ◌-◌, ◌*◌, ◌^◌, ◌≤◌, length, leb, ltb}
 use Rattle.octets.specs.Octets.{cut, pasted, be, number_at, zeroed, zero_hash}
 use Rattle.numbers.specs.Numbers.{refused, done, rule_broken, no_anchor, unusable, facts_out_of_range}
 use Rattle.numbers.specs.declared.Answer.{Answer}
+use Rattle.numbers.specs.declared.Refused.{Refused}
+use Rattle.numbers.specs.Refusals.{number_of}
 use Rattle.sha256.specs.declared.Hashed.{Hashed}
 use Rattle.tree.specs.Geometry.{block_count, height, node_number, is_piece_length}
 use Rattle.cells.specs.Cells.{Room, held_at, hash_at, put}
@@ -95,3 +97,8 @@ held_answer s l i =
     (cond (held_at s (node_number (height_of s) l i)) (record { number = 0; hash = hash_at s (node_number (height_of s) l i) }) (no_hash no_anchor))
     (no_hash rule_broken))
     (no_hash unusable)
+
+-- what a search gives, as C gets it
+abbrev pub hashed_of : Result (List ℕ) Refused → Hashed
+hashed_of (Ok h) = record { number = 0; hash = h }
+hashed_of (Err why) = no_hash (number_of why)

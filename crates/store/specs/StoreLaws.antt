@@ -1,17 +1,15 @@
 -- What follows from the definitions of Store: what a usable store is sure of, what its facts rest on, what taking hashes leaves,
 -- and how a newly opened store looks.
 -- Assumes nothing.
-use Rattle.std.specs.Prelude.{◌≡◌, Bool, ◌&&◌, ℕ, zero, suc, ◌+◌, ◌-◌, ◌*◌, ◌%◌, ◌^◌, ◌≤◌, ◌<◌, length, drop, ltb}
+use Rattle.std.specs.Prelude.{◌≡◌, Bool, ◌&&◌, ℕ, zero, suc, ◌+◌, ◌-◌, ◌*◌, ◌%◌, ◌^◌, ◌≤◌, ◌<◌, length, drop, ltb, List, [], ◌∷◌, ◌++◌}
 use Rattle.std.proofs.Math.Path.{refl, ap, sym}
-use Rattle.std.proofs.Common.{◌∙◌, inl, pow_pos, pow_mono}
-use mathlib.Core.List.{List, [], ◌∷◌, ◌++◌}
+use Rattle.std.proofs.Common.{◌∙◌, inl, pow_pos, pow_mono, arith, le-leb, leb-true, ltb-true, ne_eqb}
 use Rattle.std.proofs.Math.Bool.{true, false, and-eq-true_iff}
 use Rattle.std.proofs.Math.Decide.{ℕ_discrete}
-use native.Mathlib.Omega.{arith}
 use Rattle.std.proofs.Math.ListN.{get_or, get_or-append}
 use Rattle.std.proofs.Math.Seq.{get_or-append-add}
 use Rattle.std.proofs.Math.Dec.{leb, eqb}
-use borrow.Author.Tests.{le-leb, lt-leb, leb-true, ltb-true, ne_eqb}
+use Rattle.std.proofs.lemmas.Bool.{lt-leb}
 use Rattle.octets.specs.Octets.{cut, pasted, be, number_at, zeroed}
 use Rattle.octets.specs.OctetsLaws.{be_octets, cut_append_right, cut_cut, cut_pasted_other, cut_pasted_same, cut_size, get_or_cut, get_or_pasted_in, get_or_pasted_after, number_cut, number_of_be, number_same, pasted_length, zeroed_at, zeroed_length, zeroed_past}
 use Rattle.numbers.specs.Numbers.{refused, done, rule_broken, no_anchor, unusable, facts_out_of_range}

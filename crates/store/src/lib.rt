@@ -4,10 +4,11 @@
 ghost use Rattle.std.specs.Prelude.{◌≡◌, true, ◌++◌, ◌≤◌, length};
 ghost use Rattle.octets.specs.Octets.{pasted, zeroed, be};
 ghost use Rattle.cells.specs.Cells.{put};
+ghost use Rattle.numbers.specs.Refusals.{answer_of};
 ghost use Rattle.limits.specs.Limits.{longest_file};
 ghost use Rattle.store.specs.Store as S;
 
-use numbers::{Answer, refusal, success};
+use numbers::{Answer, Refused};
 use sha256::Hashed;
 use tree::geometry::{block_count, height, is_piece_length, node_number};
 
@@ -85,12 +86,7 @@ pub fn is_usable(store: &[u8]) -> bool
     }
     let n = file_length(store);
     let plen = piece_length_of(store);
-    let ok = facts_in_range(n, plen);
-    if ok {
-        let size = size_in_range(n);
-        return size <= store.len();
-    }
-    false
+    facts_in_range(n, plen) && size_in_range(n) <= store.len()
 }
 
 // The number that the positions of a store's tree stay below.
@@ -102,16 +98,22 @@ pub fn positions_of(store: &[u8]) -> usize
     2 << h
 }
 
+// The size of a store for such a file.
+fn size_for(length: usize, plen: usize) -> Result<usize, Refused>
+    ensures { answer_of result ≡ S.size_answer length plen }
+{
+    if facts_in_range(length, plen) {
+        let size = size_in_range(length);
+        return Ok(size);
+    }
+    Err(Refused::FactsOutOfRange)
+}
+
 // The size of a store, or 10.
 pub fn store_size(length: usize, plen: usize) -> Answer
     ensures { result ≡ S.size_answer length plen }
 {
-    let ok = facts_in_range(length, plen);
-    if ok {
-        let size = size_in_range(length);
-        return success(size as u64);
-    }
-    refusal(numbers::FACTS_OUT_OF_RANGE)
+    Answer::from(size_for(length, plen).map(|size| size as u64))
 }
 
 // Sets the first `size` bytes: the facts, the root held, zeros.
@@ -126,20 +128,23 @@ fn set_bytes(store: &mut [u8], size: usize, n: usize, plen: usize, root: [u8; 32
     cells::put_at(store, 1, root);
 }
 
+fn opened(store: &mut [u8], length: usize, plen: usize, root: [u8; 32]) -> Result<u64, Refused>
+    ensures answer { answer_of result ≡ S.open_answer store.old length plen }
+    ensures left { store.new ≡ S.open_after store.old length plen root }
+{
+    let size = size_for(length, plen)?;
+    if store.len() < size {
+        return Err(Refused::Unusable);
+    }
+    set_bytes(store, size, length, plen, root);
+    Ok(1)
+}
+
 // Opens a store for a file of `length` bytes: 10 for facts out of range, then 9 for too little room; else the root alone is held, and the count is 1.
 pub fn open(store: &mut [u8], length: usize, plen: usize, root: [u8; 32]) -> Answer
     ensures { (result ≡ S.open_answer store.old length plen) × (store.new ≡ S.open_after store.old length plen root) }
 {
-    let ok = facts_in_range(length, plen);
-    if ok {
-        let size = size_in_range(length);
-        if store.len() < size {
-            return refusal(numbers::UNUSABLE);
-        }
-        set_bytes(store, size, length, plen, root);
-        return success(1);
-    }
-    refusal(numbers::FACTS_OUT_OF_RANGE)
+    Answer::from(opened(store, length, plen, root))
 }
 
 // Whether a tree of `height` has position `index` of `layer`.
@@ -147,39 +152,36 @@ fn in_tree(height: usize, layer: usize, index: usize) -> bool
     requires { height ≤ 63 }
     ensures { result ≡ S.in_tree height layer index }
 {
-    if layer > height {
-        return false;
-    }
-    let d = height - layer;
-    index < 1 << d
+    layer <= height && index < 1 << (height - layer)
 }
 
-// Beside a refusal the hash is zero.
-fn no_hash(number: u32) -> Hashed
-    ensures { result ≡ S.no_hash number }
+fn found(store: &[u8], layer: usize, index: usize) -> Result<[u8; 32], Refused>
+    ensures { S.hashed_of result ≡ S.held_answer store.now layer index }
 {
-    let none = [0u8; 32];
-    Hashed { number, hash: none }
+    if !is_usable(store) {
+        return Err(Refused::Unusable);
+    }
+    let h = height_of(store);
+    if !in_tree(h, layer, index) {
+        return Err(Refused::RuleBroken);
+    }
+    let q = node_number(h, layer, index);
+    if !cells::held(store, q) {
+        return Err(Refused::NoAnchor);
+    }
+    Ok(cells::hash_of(store, q))
 }
 
-// The hash held at position `index` of `layer`; 3 where the tree has no such position, 6 where it is not held.
+// The hash held at position `index` of `layer`; 9 where the store is not usable, 3 where the tree has no such position, 6 where it is not held.
+// Beside a refusal the hash is zero: C gets both in one struct.
 pub fn held_hash(store: &[u8], layer: usize, index: usize) -> Hashed
     ensures { result ≡ S.held_answer store.now layer index }
 {
-    let ok = is_usable(store);
-    if ok {
-        let h = height_of(store);
-        let there = in_tree(h, layer, index);
-        if there {
-            let q = node_number(h, layer, index);
-            let held = cells::held(store, q);
-            if held {
-                let hash = cells::hash_of(store, q);
-                return Hashed { number: 0, hash };
-            }
-            return no_hash(numbers::NO_ANCHOR);
-        }
-        return no_hash(numbers::RULE_BROKEN);
+    match found(store, layer, index) {
+        Ok(hash) => Hashed { number: 0, hash },
+        Err(why) => Hashed {
+            number: u32::from(why),
+            hash: [0u8; 32],
+        },
     }
-    no_hash(numbers::UNUSABLE)
 }

@@ -1,10 +1,9 @@
 -- 02, request 9, as theorems: every cutting, with the same room, gives the same messages and the same end state.
 -- Assumes nothing.
 use Rattle.std.specs.Prelude.{◌≡◌, refl, List, [], ◌∷◌, ◌++◌, Bool, true, false, ℕ, zero, suc, ◌+◌, ◌≤◌, ◌<◌, length, drop}
-use Rattle.std.proofs.Common.{ap, ◌∙◌, length-drop, eq-eqb, ne_eqb}
+use Rattle.std.proofs.Common.{ap, ◌∙◌, length-drop, eq-eqb, ne_eqb, arith}
 use Rattle.std.proofs.Math.Path.{sym}
 use Rattle.std.proofs.lemmas.Bool.{false≢true}
-use native.Mathlib.Omega.{arith}
 use Rattle.std.proofs.Math.Decide.{ℕ_discrete}
 use Rattle.numbers.specs.Numbers.{frame_too_long}
 use Rattle.frames.specs.Frames.{Bytes}

@@ -1,6 +1,6 @@
 -- Laws of frames read byte by byte: what is done with a frame, and a run of its bytes at once.
 -- Assumes nothing.
-use Rattle.std.specs.Prelude.{◌≡◌, refl, List, [], ◌∷◌, Bool, true, false, cond, ℕ, suc, ◌+◌, ◌≤◌, ◌<◌, length, take, drop, eqb, ltb}
+use Rattle.std.specs.Prelude.{◌≡◌, refl, List, [], ◌∷◌, Bool, true, false, cond, ℕ, suc, ◌+◌, ◌≤◌, ◌<◌, length, take, drop, eqb, ltb, Some, None}
 use Rattle.std.proofs.Common.{ap, sym, ◌∙◌, arith, length-take, lt-ltb, eq-eqb, ne_eqb}
 use Rattle.std.proofs.Math.Decide.{dec_lt, ℕ_discrete}
 use Rattle.octets.specs.Octets.{pasted}
@@ -14,17 +14,17 @@ use Rattle.stream.specs.declared.Stream.{Stream}
 
 -- ---- what is done with a frame
 
-pub mode_unknown : (i l : ℕ) (z : Sizes) → z ≡ sizes_of i → z.least ≡ 0 → skipping_unknown ≡ mode_of i l
+pub mode_unknown : (i l : ℕ) → None ≡ sizes_of i → skipping_unknown ≡ mode_of i l
 unfolding mode_of
-mode_unknown i l z e k = rw (known_no i z e k)
+mode_unknown i l e = rw (known_no i e)
 
-pub mode_right : (i l : ℕ) (z : Sizes) (r : Bool) → z ≡ sizes_of i → (z.least ≡ 0 → ⊥) → r ≡ right_for z l → r ≡ true → storing ≡ mode_of i l
+pub mode_right : (i l : ℕ) (z : Sizes) (r : Bool) → Some z ≡ sizes_of i → r ≡ right_for z l → r ≡ true → storing ≡ mode_of i l
 unfolding mode_of
-mode_right i l z r e k f g = rw (known_yes i z e k, sym (right_is i l z e) ∙ sym f ∙ g)
+mode_right i l z r e f g = rw (known_yes i z e, sym (right_is i l z e) ∙ sym f ∙ g)
 
-pub mode_wrong : (i l : ℕ) (z : Sizes) (r : Bool) → z ≡ sizes_of i → (z.least ≡ 0 → ⊥) → r ≡ right_for z l → r ≡ false → skipping_wrong ≡ mode_of i l
+pub mode_wrong : (i l : ℕ) (z : Sizes) (r : Bool) → Some z ≡ sizes_of i → r ≡ right_for z l → r ≡ false → skipping_wrong ≡ mode_of i l
 unfolding mode_of
-mode_wrong i l z r e k f g = rw (known_yes i z e k, sym (right_is i l z e) ∙ sym f ∙ g)
+mode_wrong i l z r e f g = rw (known_yes i z e, sym (right_is i l z e) ∙ sym f ∙ g)
 
 pub mode_first : (t : Stream) (n b i m r : ℕ) → t.read ≡ 0 → i ≡ b → m ≡ mode_of i t.length → r ≡ fitting t.length n m → r ≡ mode_at t n b
 unfolding mode_at

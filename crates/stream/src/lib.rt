@@ -53,14 +53,15 @@ pub const KEEP_ALIVE: u32 = 2;
 fn mode_of(id: usize, l: usize) -> u32
     ensures { result ≡ R.mode_of id l }
 {
-    let z = frames::sizes_of(id);
-    if z.least == 0 {
-        return SKIPPING_UNKNOWN;
+    match frames::sizes_of(id) {
+        Some(sizes) => {
+            if frames::right_for(sizes, l) {
+                return STORING;
+            }
+            SKIPPING_WRONG
+        }
+        None => SKIPPING_UNKNOWN,
     }
-    if frames::right_for(z, l) {
-        return STORING;
-    }
-    SKIPPING_WRONG
 }
 
 // Only a frame not longer than the room, of n bytes, is stored.
@@ -196,16 +197,6 @@ fn prefix_byte(before: Stream, b: usize) -> Heard
     without_event(numbers::DONE, 1, next)
 }
 
-// The smaller of two.
-fn smaller(a: usize, b: usize) -> usize
-    ensures { result ≡ min a b }
-{
-    if a < b {
-        return a;
-    }
-    b
-}
-
 // A run of the bytes of a frame: to its end, or to the end of the bytes.
 fn frame_run(before: Stream, bytes: &[u8], room: &mut [u8]) -> Heard
     requires { Going before (length room.old) × (4 ≤ before.length_size) × (0 < length bytes.now) }
@@ -217,7 +208,7 @@ fn frame_run(before: Stream, bytes: &[u8], room: &mut [u8]) -> Heard
     let size = room.len();
     let first = bytes[0];
     let mode = mode_at(before, size, first);
-    let n = smaller(left, bytes.len());
+    let n = left.min(bytes.len());
     keep(mode, room, read, &bytes[0..n]);
     if n == left {
         return ended(l, mode, n);
@@ -247,7 +238,7 @@ fn run(before: Stream, bytes: &[u8], room: &mut [u8]) -> Heard
     let mut t = before;
     let mut at: usize = 0;
     while at < bytes.len() {
-        let p = step(t, &bytes[at..bytes.len()], room);
+        let p = step(t, &bytes[at..], room);
         at += p.used as usize;
         let next = p.state;
         if p.number != numbers::DONE {
@@ -273,7 +264,7 @@ fn run(before: Stream, bytes: &[u8], room: &mut [u8]) -> Heard
     without_event(numbers::DONE, at, t)
 }
 
-// Whether k bytes of a prefix can make the number l.
+// Whether k bytes of a prefix can make the number l. Written out: `pow` is a loop, and this is asked of each byte of a prefix.
 fn within(l: usize, k: u32) -> bool
     requires { k < 4 }
     ensures { result ≡ ltb l (256 ^ k) }

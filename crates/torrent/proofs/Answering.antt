@@ -1,34 +1,24 @@
 -- What is answered, from what was checked and found.
 -- Assumes nothing.
-use mathlib.Core.Path.{◌≡◌, refl, sym, ap, ◌∙◌}
-use mathlib.Core.Bool.{Bool, true, false, cond}
-use mathlib.Core.List.{List}
-use Prim.Native.Nat.{ℕ, ◌+◌, ◌-◌, ◌≤◌, ◌<◌}
-use native.Mathlib.Omega.{arith}
-use lib.ListN.{length, take, drop}
-use borrow.Author.Tests.{eq-eqb, ne_eqb, lt-ltb, le-ltb}
+use Rattle.bencode.specs.Scalar.{part}
+use Rattle.std.specs.Prelude.{◌≡◌, refl, Bool, true, false, cond, List, ℕ, ◌+◌, ◌-◌, ◌≤◌, ◌<◌, length, take, drop, Option, None}
+use Rattle.std.proofs.Common.{sym, ap, ◌∙◌, arith, eq-eqb, ne_eqb, lt-ltb, le-ltb}
 use Rattle.limits.specs.Limits.{largest_torrent}
 use Rattle.octets.specs.Octets.{cut, zero_hash}
 use Rattle.numbers.specs.Numbers.{no_such_part}
 use Rattle.sha256.specs.Sha256.{sha256}
 use Rattle.tree.specs.Geometry.{has_layer}
 use Rattle.bencode.specs.Parts.{find_key}
-use Rattle.bencode.specs.declared.scalar.ByteString.{ByteString}
-use Rattle.bencode.specs.declared.scalar.ByteString.TheVariants.{Content, NoString}
-use Rattle.bencode.specs.declared.parts.Found.{Found}
+use Rattle.bencode.specs.declared.part.Part.{Part}
 use Rattle.sorting.proofs.Telling.{part_is}
 use Rattle.filetree.specs.Tree.{right, listed, files_in, file_number}
 use Rattle.layers.specs.Layers.{Inside, string_in, layer_at, root_bytes, layer_string, start_of, size_of}
 use Rattle.layers.proofs.Finding.{layer_inside}
-use Rattle.torrent.specs.Torrent.{checked_of, no_torrent, read_of, no_file_read, file_answer, file_read, no_part_read, element_in, path_read}
+use Rattle.torrent.specs.Torrent.{PartRead, FileRead, Torrent, Checked, checked_of, no_torrent, read_of, no_file_read, file_answer, file_read, no_part_read, element_in, path_read}
 use Rattle.torrent.specs.CheckLaws.{Whole, checked_so, tree_in_info}
 use Rattle.torrent.specs.Find.{sought_file}
-use Rattle.metainfo.specs.declared.Keys.{Keys}
-use Rattle.torrent.specs.declared.check.Checked.{Checked}
+use Rattle.metainfo.specs.Metainfo.{Keys}
 use Rattle.torrent.specs.declared.one.SoughtFile.{SoughtFile}
-use Rattle.torrent.specs.declared.read.Torrent.{Torrent}
-use Rattle.torrent.specs.declared.read.FileRead.{FileRead}
-use Rattle.torrent.specs.declared.read.PartRead.{PartRead}
 
 -- ---- root and layer
 
@@ -41,16 +31,16 @@ module _ (t : List ℕ) (n r : ℕ) where
   unfolding root_bytes
   root_some e = simp (ne_eqb n 0 e)
 
-pub layer_found : (l root : List ℕ) (w : Found) → find_key root 0 l ≡ w → string_in l w ≡ layer_at l root
+pub layer_found : (l root : List ℕ) (w : Option Part) → find_key root 0 l ≡ w → string_in l w ≡ layer_at l root
 unfolding layer_at
 layer_found l root w e = sym (ap (string_in l) e)
 
 module _ (t l : List ℕ) (plen n r : ℕ) where
-  pub layer_some : has_layer n plen ≡ true → (w : ByteString) → w ≡ layer_at l (take (r + 32 - r) (drop r t)) → w ≡ layer_string l plen n (cut t r 32)
+  pub layer_some : has_layer n plen ≡ true → (w : Option Part) → w ≡ layer_at l (take (r + 32 - r) (drop r t)) → w ≡ layer_string l plen n (cut t r 32)
   unfolding layer_string
   layer_some h w e = rw h (e ∙ ap (layer_at l) (part_is t r))
 
-  pub layer_none : has_layer n plen ≡ false → NoString ≡ layer_string l plen n (cut t r 32)
+  pub layer_none : has_layer n plen ≡ false → None ≡ layer_string l plen n (cut t r 32)
   unfolding layer_string
   layer_none h = rw h refl
 
@@ -58,16 +48,16 @@ pub string_inside : (l : List ℕ) (plen n : ℕ) (root : List ℕ) → Inside (
 unfolding layer_string
 string_inside l plen n root = by_long (has_layer n plen)
   where
-    by_long : (b : Bool) → Inside (length l) (cond b (layer_at l root) NoString)
+    by_long : (b : Bool) → Inside (length l) (cond b (layer_at l root) None)
     by_long true = layer_inside l root
     by_long false = tt
 
 -- a layer that was found lies within the bytes
-pub string_order : (l : List ℕ) (plen n : ℕ) (root : List ℕ) (w : ByteString) (a b : ℕ) → w ≡ layer_string l plen n root → w ≡ Content a b → (a ≤ b) × (b ≤ length l)
+pub string_order : (l : List ℕ) (plen n : ℕ) (root : List ℕ) (w : Option Part) (a b : ℕ) → w ≡ layer_string l plen n root → w ≡ part a b → (a ≤ b) × (b ≤ length l)
 string_order l plen n root w a b e f = rw (sym e ∙ f) at (string_inside l plen n root)
 
 pub one_answer : (t l : List ℕ) (base plen n : ℕ) (p : SoughtFile) → p ≡ sought_file (file_number (listed (files_in t)) n) → (root : List ℕ) → root ≡ root_bytes t p.length p.root
-    → (w v : ByteString) → w ≡ layer_string l plen p.length (cut t p.root 32) → w ≡ v
+    → (w v : Option Part) → w ≡ layer_string l plen p.length (cut t p.root 32) → w ≡ v
     → ◌≡◌ {A = FileRead} (record { number = 0; length = p.length; root = root; elements = p.elements; start = start_of base v; size = size_of v }) (file_answer t l base plen (file_number (listed (files_in t)) n))
 one_answer t l base plen n p ep root er w v ew ev = rw (er, sym ev, ew, ep) refl
 

@@ -1,14 +1,9 @@
 -- The numbers of a torrent, one after the other, as the code comes to them.
 -- Assumes nothing.
-use mathlib.Core.Path.{◌≡◌, refl, sym, ap, ◌∙◌}
-use mathlib.Core.Bool.{Bool, true, false, cond, not, ◌&&◌, ◌||◌, false≢true}
-use mathlib.Core.List.{List, [], ◌++◌, append_assoc, append-nil}
-use Prim.Native.Nat.{ℕ, zero, suc, ◌+◌, ◌-◌, ◌≤◌, ◌<◌}
-use native.Mathlib.Omega.{arith}
-use lib.ListN.{length, take, drop, get_or, length-append}
-use lib.Seq.{get_or-take, take_at}
-use lib.Dec.{eqb}
-use borrow.Author.Tests.{eq-eqb, ne_eqb}
+use Rattle.filetree.specs.Count.{past}
+use Rattle.std.specs.Prelude.{◌≡◌, refl, Bool, true, false, cond, not, ◌&&◌, ◌||◌, List, [], ◌++◌, ℕ, zero, suc, ◌+◌, ◌-◌, ◌≤◌, ◌<◌, length, take, drop, get_or, eqb, None, Some, unwrap_or}
+use Rattle.std.proofs.Common.{sym, ap, ◌∙◌, append_assoc, append-nil, arith, length-append, get_or-take, take_at, eq-eqb, ne_eqb}
+use Rattle.std.proofs.lemmas.Bool.{false≢true}
 use Rattle.limits.specs.Limits.{largest_torrent, max_levels}
 use Rattle.octets.specs.Octets.{cut, pasted}
 use Rattle.octets.specs.OctetsLaws.{cut_size}
@@ -23,51 +18,40 @@ use Rattle.meaning.specs.Torrent.{info_of, plen_of, File, files_of, lengths_agre
 use Rattle.halves.specs.Decoded.{decoded, torrent_in}
 use Rattle.halves.specs.V1Half.{is_hybrid, halves_fit}
 use Rattle.hybrid.specs.Entry.{StandsAt}
-use Rattle.metainfo.specs.Metainfo.{bytes_in, no_keys, keys_of, metainfo_of}
+use Rattle.metainfo.specs.Metainfo.{Keys, bytes_in, keys_of, metainfo_of}
 use Rattle.metainfo.specs.MetainfoLaws.{metainfo_right}
-use Rattle.metainfo.specs.declared.Keys.{Keys}
 use Rattle.filetree.specs.Tree.{Listed, Files, wrong, files, right, listed, files_in, roots_of}
 use Rattle.filetree.specs.Reading.{read_files}
 use Rattle.filetree.specs.Count.{most_roots, no_tally, tally_after, counted_of}
 use Rattle.filetree.specs.CountLaws.{CountedTree}
 use Rattle.filetree.specs.FilesLaws.{files_right, roots_right}
 use Rattle.filetree.specs.declared.count.Tally.{Tally}
-use Rattle.filetree.specs.declared.count.Counted.TheVariants.{Past, WrongTree}
+use Rattle.filetree.specs.declared.count.Counted.{Counted}
 use Rattle.twins.specs.Twins.{layer_count, compared_of, Rooted}
 use Rattle.twins.specs.WalkLaws.{roots_stand, layers_roots}
-use Rattle.twins.specs.declared.Compared.TheVariants.{Agree, Differ}
 use Rattle.layers.specs.Layers.{keys_wide, layer_keys, Indexed, LayersOpen, worst}
-use Rattle.torrent.specs.Torrent.{files_number, tree_number, judged_as, judged_of, unread, v2_checked_of, checked_of}
+use Rattle.torrent.specs.Torrent.{Checked, Judged, files_number, tree_number, judged_as, judged_of, unread, v2_checked_of, checked_of}
 use Rattle.joined.specs.KeysLaws.{KeysAt, keys_point}
 use Rattle.joined.specs.StrictTorrentLaws.{torrent_files}
 use Rattle.torrent.specs.HalvesFit.{fit_beside}
 use Rattle.torrent.specs.CheckLaws.{Open, keys_open, Whole, v2_so}
-use Rattle.torrent.specs.declared.check.Judged.{Judged}
-use Rattle.torrent.specs.declared.check.Checked.{Checked}
-
-pub judged_done : (n count layered : ℕ) → n ≡ 0 → ◌≡◌ {A = Judged} (record { number = n; files = count; layered = layered }) (judged_as n count layered)
-judged_done zero count layered e = refl
-judged_done (suc n) count layered e = let z : ⊥ = omega arith in absurd z
 
 pub judged_refused : (n count layered : ℕ) → (n ≡ 0 → ⊥) → ◌≡◌ {A = Judged} (record { number = n; files = 0; layered = 0 }) (judged_as n count layered)
 judged_refused zero count layered h = absurd (h refl)
 judged_refused (suc n) count layered h = refl
 
-pub not_read_so : (n : ℕ) (k : Keys) → k ≡ no_keys n → ◌≡◌ {A = Checked} (record { keys = k; files = 0; layered = 0 }) (unread n)
-not_read_so n k e = rw e refl
-
 -- ---- what was counted
 
-wrong_so : (x : Files) → WrongTree ≡ counted_of no_tally x → right x ≡ false
+wrong_so : (x : Files) → None ≡ counted_of no_tally x → right x ≡ false
 unfolding counted_of right
 wrong_so wrong q = refl
 wrong_so (files fs k) q = let z : ◌≡◌ {A = ℕ} 0 1 = cc in absurd (omega arith)
 
-right_so : (k : ℕ) (c : Tally) (x : Files) → Past k c ≡ counted_of no_tally x → (right x ≡ true) × (c.files ≡ length (listed x)) × (c.roots ≡ length (roots_of (listed x)))
+right_so : (k : ℕ) (c : Tally) (x : Files) → past k c ≡ counted_of no_tally x → (right x ≡ true) × (c.files ≡ length (listed x)) × (c.roots ≡ length (roots_of (listed x)))
 unfolding counted_of right listed tally_after
 right_so k c wrong q = let z : ◌≡◌ {A = ℕ} 0 1 = cc in absurd (omega arith)
 right_so k c (files gs j) q =
-    let p : c ≡ record { files = 0 + length gs; roots = 0 + length (roots_of gs) } = cc in
+    let p : c ≡ record { files = 0 + length gs; roots = 0 + length (roots_of gs) } = ap (λ w. (unwrap_or {T = Counted} w (record { next = k; tally = c })).tally) q in
     let a = ap (λ (z : Tally). z.files) p in
     let b = ap (λ (z : Tally). z.roots) p in
     (refl, omega arith, omega arith)
@@ -82,28 +66,28 @@ unfolding pasted
 start_taken s xs n e = take_at xs (drop (0 + length xs) s) n (sym e)
 
 -- the lengths agree where so many layers are counted, and do not where they differ
-agree_so : (plen layered : ℕ) (vs : List File) → Agree layered ≡ compared_of plen vs → (lengths_agree vs ≡ true) × (layered ≡ layer_count plen vs)
+agree_so : (plen layered : ℕ) (vs : List File) → Some layered ≡ compared_of plen vs → (lengths_agree vs ≡ true) × (layered ≡ layer_count plen vs)
 unfolding compared_of
 agree_so plen layered vs e = by_lengths (lengths_agree vs) refl e
   where
-    by_lengths : (b : Bool) → lengths_agree vs ≡ b → Agree layered ≡ cond b (Agree (layer_count plen vs)) Differ → (lengths_agree vs ≡ true) × (layered ≡ layer_count plen vs)
+    by_lengths : (b : Bool) → lengths_agree vs ≡ b → Some layered ≡ cond b (Some (layer_count plen vs)) None → (lengths_agree vs ≡ true) × (layered ≡ layer_count plen vs)
     by_lengths true q f = let z : layered ≡ layer_count plen vs = cc in (q, z)
     by_lengths false q f = let z : ◌≡◌ {A = ℕ} 0 1 = cc in absurd (omega arith)
 
-differ_so : (plen : ℕ) (vs : List File) → Differ ≡ compared_of plen vs → lengths_agree vs ≡ false
+differ_so : (plen : ℕ) (vs : List File) → None ≡ compared_of plen vs → lengths_agree vs ≡ false
 unfolding compared_of
 differ_so plen vs e = by_lengths (lengths_agree vs) refl e
   where
-    by_lengths : (b : Bool) → lengths_agree vs ≡ b → Differ ≡ cond b (Agree (layer_count plen vs)) Differ → lengths_agree vs ≡ false
+    by_lengths : (b : Bool) → lengths_agree vs ≡ b → None ≡ cond b (Some (layer_count plen vs)) None → lengths_agree vs ≡ false
     by_lengths true q f = let z : ◌≡◌ {A = ℕ} 0 1 = cc in absurd (omega arith)
     by_lengths false q f = q
 
 module _ (t l : List ℕ) (plen : ℕ) where
-  pub judged_wrong : WrongTree ≡ counted_of no_tally (files_in t) → ◌≡◌ {A = Judged} (record { number = wrong_tree; files = 0; layered = 0 }) (judged_of t l plen)
+  pub judged_wrong : None ≡ counted_of no_tally (files_in t) → ◌≡◌ {A = Judged} (record { number = wrong_tree; files = 0; layered = 0 }) (judged_of t l plen)
   unfolding judged_of tree_number
   judged_wrong e = rw (wrong_so (files_in t) e) refl
 
-  module _ (k : ℕ) (c : Tally) (roots₀ roots : List ℕ) (e : CountedTree t roots₀ roots (Past k c)) (sized : length roots ≡ most_roots) where
+  module _ (k : ℕ) (c : Tally) (roots₀ roots : List ℕ) (e : CountedTree t roots₀ roots (past k c)) (sized : length roots ≡ most_roots) where
     abbrev fs : List Listed
     fs = listed (files_in t)
 
@@ -163,11 +147,11 @@ module _ (t l : List ℕ) (plen : ℕ) where
     unfolding tree_number files_number
     number_is b q = rw so.0 (rw q refl)
 
-    pub judged_same : Differ ≡ compared_of plen vs → ◌≡◌ {A = Judged} (record { number = two_lengths; files = 0; layered = 0 }) (judged_of t l plen)
+    pub judged_same : None ≡ compared_of plen vs → ◌≡◌ {A = Judged} (record { number = two_lengths; files = 0; layered = 0 }) (judged_of t l plen)
     unfolding judged_of
     judged_same q = sym (ap (λ (z : ℕ). judged_as z (length fs) (layer_count plen vs)) (number_is false (differ_so plen vs q)))
 
-    module _ (layered : ℕ) (q : Agree layered ≡ compared_of plen vs) where
+    module _ (layered : ℕ) (q : Some layered ≡ compared_of plen vs) where
       agreed : (lengths_agree vs ≡ true) × (layered ≡ layer_count plen vs)
       agreed = agree_so plen layered vs q
 

@@ -13,9 +13,7 @@ use Rattle.bencode.specs.Strict.{Encoded, TooDeepFirst}
 use Rattle.meaning.specs.Keys.{key_info}
 use Rattle.meaning.specs.Torrent.{info_of, plen_of, layers_of, File, files_of}
 use Rattle.halves.specs.V1Half.{torrent_number}
-use Rattle.torrent.specs.declared.read.Torrent.{Torrent}
-use Rattle.torrent.specs.declared.read.FileRead.{FileRead}
-use Rattle.torrent.specs.declared.read.PartRead.{PartRead}
+use Rattle.torrent.specs.Torrent.{PartRead, FileRead, Torrent}
 
 -- what the number n says of the bytes s: they are more than 1 MiB; or they are no strict bencoding, and the depth is not wrong first; or
 -- it is; or they encode a valid dictionary, and n is what 01 and 02 say of that value (`meaning`'s Amiss, `halves`' Amiss31)

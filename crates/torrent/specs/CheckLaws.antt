@@ -1,6 +1,7 @@
 -- What the parts of a torrent that gets 0 so far are, for the code that goes on with them.
 -- Assumes nothing.
-use Rattle.std.specs.Prelude.{◌≡◌, refl, Bool, true, false, cond, not, ◌||◌, List, [], ◌∷◌, ◌++◌, ℕ, zero, suc, ◌+◌, ◌-◌, ◌≤◌, length, drop, eqb}
+use Rattle.bencode.specs.Scalar.{part}
+use Rattle.std.specs.Prelude.{◌≡◌, refl, Bool, true, false, cond, not, ◌||◌, List, [], ◌∷◌, ◌++◌, ℕ, zero, suc, ◌+◌, ◌-◌, ◌≤◌, length, drop, eqb, Option, Some, None}
 use Rattle.std.proofs.Common.{sym, ap, ◌∙◌, append-nil, drop-drop, arith, eqb-true, ne_eqb}
 use Rattle.std.proofs.lemmas.Bool.{false≢true, eqb-false}
 use Rattle.meaning.specs.Keys.{key_info, key_file_tree, key_piece_layers}
@@ -11,41 +12,38 @@ use Rattle.tree.specs.Geometry.{is_piece_length}
 use Rattle.numbers.specs.Numbers.{wrong_tree, halves_differ}
 use Rattle.bencode.specs.Grammar.{letter_d, Value, integer, string, list, dictionary, Entries, no_entries, entry, encode, encode_entries, KeyBefore, none, after, Valid, EntriesValid}
 use Rattle.bencode.specs.Walk.{between}
-use Rattle.bencode.specs.EndsLaws.{drop_further}
+use Rattle.bencode.specs.EndsLaws.{drop_further, same_part}
 use Rattle.bencode.specs.CompleteLaws.{content_start, dictionary_bytes}
 use Rattle.bencode.specs.DepthLaws.{entries_more_levels}
 use Rattle.bencode.specs.Parts.{is_dictionary, find_in, find_key, FoundIs, Lookup, absent, present, lookup}
 use Rattle.bencode.specs.PartsLaws.{after_part, value_start, entry_is, entry_none, entries_length, part_front, find_ends, find_is, lookup_valid, dictionary_is, is_dictionary_value}
 use Rattle.bencode.specs.StrictLaws.{taken_only}
-use Rattle.bencode.specs.declared.parts.Found.{Found}
-use Rattle.bencode.specs.declared.parts.Found.TheVariants.{Part, Missing}
+use Rattle.bencode.specs.declared.part.Part.{Part}
 use Rattle.halves.specs.Decoded.{torrent_in}
 use Rattle.halves.specs.V1Half.{is_hybrid, halves_fit}
-use Rattle.metainfo.specs.Metainfo.{bytes_in, dictionary_in, metainfo_of}
+use Rattle.metainfo.specs.Metainfo.{Keys, bytes_in, dictionary_in, metainfo_of}
 use Rattle.metainfo.specs.MetainfoLaws.{metainfo_right}
-use Rattle.metainfo.specs.declared.Keys.{Keys}
 use Rattle.filetree.specs.Tree.{Files, right, listed, files_in}
 use Rattle.filetree.specs.Reading.{read_files}
 use Rattle.twins.specs.Twins.{layer_count}
 use Rattle.layers.specs.Layers.{LayersOpen}
 use Rattle.layers.specs.KeysLaws.{keys_ascending}
-use Rattle.torrent.specs.Torrent.{files_number, tree_number, judged_as, judged_of, unread, with_judged, v2_checked_of, checked_of}
-use Rattle.torrent.specs.declared.check.Checked.{Checked}
+use Rattle.torrent.specs.Torrent.{Checked, files_number, tree_number, judged_as, judged_of, unread, with_judged, v2_checked_of, checked_of}
 
 -- a dictionary that is found is one
-dictionary_found : (s key : List ℕ) (at a b : ℕ) → dictionary_in s (find_key key at (drop at s)) ≡ Part a b → (find_key key at (drop at s) ≡ Part a b) × (is_dictionary (drop a s) ≡ true)
+dictionary_found : (s key : List ℕ) (at a b : ℕ) → dictionary_in s (find_key key at (drop at s)) ≡ part a b → (find_key key at (drop at s) ≡ part a b) × (is_dictionary (drop a s) ≡ true)
 dictionary_found s key at a b e = by_found (find_key key at (drop at s)) e
   where
-    by_kind : (x y : ℕ) (t : Bool) → is_dictionary (drop x s) ≡ t → cond t (Part x y) Missing ≡ Part a b → (Part x y ≡ Part a b) × (is_dictionary (drop a s) ≡ true)
-    by_kind x y true q f = let z : x ≡ a = cc in (f, rw z at q)
+    by_kind : (x y : ℕ) (t : Bool) → is_dictionary (drop x s) ≡ t → cond t (part x y) None ≡ part a b → (part x y ≡ part a b) × (is_dictionary (drop a s) ≡ true)
+    by_kind x y true q f = (f, rw (same_part _ _ _ _ f).0 at q)
     by_kind x y false q f = let z : ◌≡◌ {A = ℕ} 0 1 = cc in absurd (omega arith)
 
-    by_found : (w : Found) → dictionary_in s w ≡ Part a b → (w ≡ Part a b) × (is_dictionary (drop a s) ≡ true)
-    by_found Missing f = let z : ◌≡◌ {A = ℕ} 0 1 = cc in absurd (omega arith)
-    by_found (Part x y) f = by_kind x y (is_dictionary (drop x s)) refl f
+    by_found : (w : Option Part) → dictionary_in s w ≡ part a b → (w ≡ part a b) × (is_dictionary (drop a s) ≡ true)
+    by_found None f = let z : ◌≡◌ {A = ℕ} 0 1 = cc in absurd (omega arith)
+    by_found (Some w) f = by_kind w.start w.end (is_dictionary (drop w.start s)) refl f
 
 -- the part of a dictionary that is found lies within the bytes
-dictionary_within : (s key : List ℕ) (at a b : ℕ) → dictionary_in s (find_key key at (drop at s)) ≡ Part a b → (a ≤ b) × (b ≤ length s) × (length (cut s a (b - a)) ≡ b - a)
+dictionary_within : (s key : List ℕ) (at a b : ℕ) → dictionary_in s (find_key key at (drop at s)) ≡ part a b → (a ≤ b) × (b ≤ length s) × (length (cut s a (b - a)) ≡ b - a)
 dictionary_within s key at a b e =
     let p = find_ends key at s a b (dictionary_found s key at a b e).0 in
     let x = p.1 in
@@ -53,7 +51,7 @@ dictionary_within s key at a b e =
     (omega arith, y, cut_length s a (b - a) (omega arith))
 
 -- in strict bytes it is the encoding of a dictionary
-part_encoded : (s key : List ℕ) (es : Entries) → s ≡ encode (dictionary es) → Valid (dictionary es) max_levels → (a b : ℕ) → dictionary_in s (find_key key 0 (drop 0 s)) ≡ Part a b
+part_encoded : (s key : List ℕ) (es : Entries) → s ≡ encode (dictionary es) → Valid (dictionary es) max_levels → (a b : ℕ) → dictionary_in s (find_key key 0 (drop 0 s)) ≡ part a b
     → (ds : Entries) × Valid (dictionary ds) (max_levels - 1) × (cut s a (b - a) ≡ encode (dictionary ds))
 unfolding Valid
 part_encoded s key es bytes valid a b e =
@@ -66,17 +64,17 @@ part_encoded s key es bytes valid a b e =
     by_value (list vs) k h q = absurd (false≢true k)
     by_value (dictionary ds) k h q = (ds, h, q)
 
-    by_lookup : (w : Lookup) → lookup key es ≡ w → FoundIs s (Part a b) w → is_dictionary (drop a s) ≡ true → (ds : Entries) × Valid (dictionary ds) (max_levels - 1) × (cut s a (b - a) ≡ encode (dictionary ds))
+    by_lookup : (w : Lookup) → lookup key es ≡ w → FoundIs s (part a b) w → is_dictionary (drop a s) ≡ true → (ds : Entries) × Valid (dictionary ds) (max_levels - 1) × (cut s a (b - a) ≡ encode (dictionary ds))
     by_lookup absent g q k = absurd q
     by_lookup (present v) g q k = by_value v (sym (dictionary_is v (drop (b - a) (drop a s))) ∙ ap is_dictionary (sym (part_front s a b v q)) ∙ k) (lookup_valid key es none (max_levels - 1) v valid g) q
 
 -- ---- what is found in a dictionary ends where it does, or before
 
-abbrev EndsBy : ℕ → Found → Type 0
-EndsBy end Missing = Unit {0}
-EndsBy end (Part a b) = b ≤ end
+abbrev EndsBy : ℕ → Option Part → Type 0
+EndsBy end None = Unit {0}
+EndsBy end (Some w) = w.end ≤ end
 
-ends_here : (end a b : ℕ) (t : Bool) (w : Found) → b ≤ end → EndsBy end w → EndsBy end (cond t (Part a b) w)
+ends_here : (end a b : ℕ) (t : Bool) (w : Option Part) → b ≤ end → EndsBy end w → EndsBy end (cond t (part a b) w)
 ends_here end a b true w p q = p
 ends_here end a b false w p q = q
 
@@ -95,7 +93,7 @@ ends_by key s (entry k v es) j (suc f) at r end e h l =
     (ends_here end (value_start at k) past (same key (between at (drop at s) (content_start at k) (value_start at k))) (find_in key f past (drop past s)) (omega arith)
     (ends_by key s es (after k) f past r end w.next h.2 (omega arith))))
 
-found_ends_by : (key s : List ℕ) (at : ℕ) (es : Entries) (r : List ℕ) → drop at s ≡ encode (dictionary es) ++ r → Valid (dictionary es) (max_levels - 1) → (a b : ℕ) → find_key key at (drop at s) ≡ Part a b
+found_ends_by : (key s : List ℕ) (at : ℕ) (es : Entries) (r : List ℕ) → drop at s ≡ encode (dictionary es) ++ r → Valid (dictionary es) (max_levels - 1) → (a b : ℕ) → find_key key at (drop at s) ≡ part a b
     → b ≤ at + length (encode (dictionary es))
 unfolding find_key Valid
 found_ends_by key s at es r e h a b q =

@@ -4,8 +4,7 @@ use Rattle.std.specs.Prelude.{◌≡◌, List, ℕ, ◌+◌, ◌-◌, ◌*◌, �
 use Rattle.limits.specs.Limits.{largest_torrent}
 use Rattle.filetree.specs.Tree.{max_elements, Element, Listed, files, files_below, file_number}
 use Rattle.filetree.specs.Path.{path_size, Holds}
-use Rattle.torrent.specs.Torrent.{element_in}
-use Rattle.torrent.specs.declared.read.PartRead.{PartRead}
+use Rattle.torrent.specs.Torrent.{PartRead, element_in}
 use Rattle.torrent.specs.declared.one.SoughtFile.{SoughtFile}
 use Rattle.torrent.specs.declared.one.Search.{Search}
 use Rattle.torrent.specs.declared.one.Search.TheVariants.{Here, Past, WrongTree}

@@ -1,13 +1,12 @@
 -- File n found by a walk that keeps the path.
 -- Assumes nothing.
-use Rattle.std.specs.Prelude.{◌≡◌, true, ℕ, zero, suc, ◌+◌, ◌-◌, ◌*◌, ◌≤◌, ◌<◌, length, take, get_or}
+use Rattle.std.specs.Prelude.{◌≡◌, true, ℕ, zero, suc, ◌+◌, ◌-◌, ◌*◌, ◌≤◌, ◌<◌, length, take, get_or, List, [], ◌∷◌, ◌++◌, None}
 use Rattle.std.proofs.Math.Path.{refl, ap}
 use Rattle.std.proofs.Common.{sym, ◌∙◌, arith, length-append, take-take, take_at}
 use Rattle.std.proofs.lemmas.Bool.{false≢true}
-use mathlib.Core.List.{List, [], ◌∷◌, ◌++◌}
 use Rattle.std.proofs.Math.Decide.{dec_lt}
 use Rattle.limits.specs.Limits.{largest_torrent}
-use Rattle.filetree.specs.Token.{token_at}
+use Rattle.filetree.specs.Token.{token_at, opened_token, closed_token, leaf_token}
 use Rattle.filetree.specs.TokenLaws.{leaf_ends, opened_ends, fewer_behind}
 use Rattle.filetree.specs.Tree.{max_elements, Element, Listed, listed_as, down, Files, wrong, files, files_from, files_below, files_in, right, listed, file_number}
 use Rattle.filetree.specs.TreeLaws.{tree_below, FilesPassed, passed_none, passed_bad, passed_end, passed_closed, passed_file, passed_wrong, passed_directory, same_files_lem, not_wrong, is_right, split}
@@ -15,11 +14,9 @@ use Rattle.filetree.specs.Path.{path_size, set_element, flat, Holds}
 use Rattle.filetree.specs.PathLaws.{flat_length, flat_down, element_number, holds_length, holds_down, holds_element, set_length}
 use Rattle.filetree.specs.FilesLaws.{FileRight, path_element, files_right, number_right, number_behind, number_before}
 use Rattle.layers.specs.JudgeLaws.{tree_some}
-use Rattle.filetree.specs.declared.token.Token.TheVariants.{Opened, Closed, Leaf, BadToken}
 use Rattle.numbers.specs.Numbers.{no_such_part}
-use Rattle.torrent.specs.Torrent.{no_part_read, element_in}
+use Rattle.torrent.specs.Torrent.{PartRead, no_part_read, element_in}
 use Rattle.torrent.specs.Find.{sought_file, Found, Finds, FoundFile, PathGiven, ElementRead}
-use Rattle.torrent.specs.declared.read.PartRead.{PartRead}
 use Rattle.torrent.specs.declared.one.SoughtFile.{SoughtFile}
 use Rattle.torrent.specs.declared.one.Search.{Search}
 use Rattle.torrent.specs.declared.one.Search.TheVariants.{Here, Past, WrongTree}
@@ -104,14 +101,14 @@ module _ {t : List ℕ} {at levels n : ℕ} {path₀ path : List ℕ} {below i l
   pub inside_asked : (path' : List ℕ) → length path' ≡ length path → {u : ℕ} → levels ≡ u → (below < u) × ((below ≤ max_elements) × (length path' ≡ path_size))
   inside_asked path' l e = (omega arith, (omega arith, l ∙ w.sized))
 
-  pub finds_bad : token_at t i ≡ BadToken → Finds t at levels n path₀ path WrongTree
+  pub finds_bad : token_at t i ≡ None → Finds t at levels n path₀ path WrongTree
   finds_bad e = finds_wrong t at levels n path₀ path (λ p h r. let x = w.passed p h r in passed_bad t (whole p) below p i x.0 x.1 e)
 
   pub finds_end : length t ≤ i → Finds t at levels n path₀ path WrongTree
   finds_end l = finds_wrong t at levels n path₀ path (λ p h r. let x = w.passed p h r in passed_end t (whole p) below p i x.0 x.1 l)
 
   module _ (h : i < length t) where
-    pub finds_closed : token_at t i ≡ Closed → Finds t at levels n path₀ path (Past (i + 1) left)
+    pub finds_closed : token_at t i ≡ closed_token → Finds t at levels n path₀ path (Past (i + 1) left)
     finds_closed e = record { ends = (let x = w.in_order in omega arith, omega arith); finds = go }
       where
         go : (p : List Element) → Holds path₀ depth p → (fs : List Listed) (k : ℕ) → whole p ≡ files fs k → Found fs k n p depth path (Past (i + 1) left)
@@ -122,7 +119,7 @@ module _ {t : List ℕ} {at levels n : ℕ} {path₀ path : List ℕ} {below i l
             let m : left ≡ n - length fs = omega arith in
             ((λ g. let u : ⊥ = omega arith in absurd u), λ g. (rw (y.1, sym m) refl, x.3))
 
-    module _ {a b m r k : ℕ} (e : token_at t i ≡ Leaf a b m r k) where
+    module _ {a b m r k : ℕ} (e : token_at t i ≡ leaf_token a b m r k) where
       pub file_ends : (i < k) × (k ≤ length t)
       file_ends = let x = leaf_ends t i a b m r k e in (x.0, x.1)
 
@@ -163,7 +160,7 @@ module _ {t : List ℕ} {at levels n : ℕ} {path₀ path : List ℕ} {below i l
                 (x.0 ++ listed_as m r (down p a b) ∷ [], passed_file t (whole p) below p i x.0 x.1 h a b m r k e, omega (arith, length-append x.0 (listed_as m r (down p a b) ∷ [])), x.3);
           }
 
-    module _ {a b : ℕ} (e : token_at t i ≡ Opened a b) {path' : List ℕ} (ep : path' ≡ set_element path depth a b) where
+    module _ {a b : ℕ} (e : token_at t i ≡ opened_token a b) {path' : List ℕ} (ep : path' ≡ set_element path depth a b) where
       -- the path to the directory inside
       held : (p : List Element) → Holds path depth p → Holds path' (max_elements - below) (down p a b)
       held p o = let d : max_elements - below ≡ depth + 1 = omega arith in rw (d, ep) (holds_down path depth p w.sized o a b (omega arith))

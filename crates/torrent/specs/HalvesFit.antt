@@ -1,12 +1,12 @@
 -- 02, request 12: what `info`, the part i, has for a key; and whether its v1 half fits beside the files of the tree.
 -- Assumes nothing.
+use Rattle.bencode.specs.Scalar.{part}
 use Prim.{Unit}
-use Rattle.std.specs.Prelude.{◌≡◌, Bool, true, false, not, ◌&&◌, ◌||◌, List, ℕ, ◌-◌, ◌≤◌, length}
+use Rattle.std.specs.Prelude.{◌≡◌, Bool, true, false, not, ◌&&◌, ◌||◌, List, ℕ, ◌-◌, ◌≤◌, length, Option, Some, None}
 use Rattle.octets.specs.Octets.{cut}
 use Rattle.bencode.specs.Grammar.{Entries, dictionary}
 use Rattle.bencode.specs.Parts.{Lookup, absent, lookup, find_key}
-use Rattle.bencode.specs.declared.parts.Found.{Found}
-use Rattle.bencode.specs.declared.parts.Found.TheVariants.{Part, Missing}
+use Rattle.bencode.specs.declared.part.Part.{Part}
 use Rattle.meaning.specs.Keys.{key_length}
 use Rattle.meaning.specs.Torrent.{File}
 use Rattle.halves.specs.V1Keys.{key_files, key_name, key_pieces}
@@ -17,9 +17,9 @@ use Rattle.torrent.specs.declared.both.KeyString.{KeyString}
 use Rattle.torrent.specs.declared.both.KeyString.TheVariants.{NoKey, Text, OtherType}
 
 -- what was found first
-abbrev pub or_else : Found → Found → Found
-or_else Missing y = y
-or_else (Part a b) y = Part a b
+abbrev pub or_else : Option Part → Option Part → Option Part
+or_else None y = y
+or_else (Some w) y = part w.start w.end
 
 -- each key is where a search for it alone finds it
 pub record KeysFound (i : List ℕ) (r : HalfKeys) : Type 0 where

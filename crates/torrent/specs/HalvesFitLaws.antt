@@ -1,11 +1,10 @@
 -- The v1 half from its keys, and with `pieces` whether the halves fit.
 -- Assumes nothing.
-use Rattle.std.specs.Prelude.{◌≡◌, Bool, true, false, not, ◌&&◌, ℕ, ◌-◌, ◌*◌, ◌^◌, ◌≤◌, ◌<◌, length, take, eqb}
+use Rattle.std.specs.Prelude.{◌≡◌, Bool, true, false, not, ◌&&◌, ℕ, ◌-◌, ◌*◌, ◌^◌, ◌≤◌, ◌<◌, length, take, eqb, List, [], ◌∷◌, Option, Some, None}
+use Rattle.bencode.specs.Scalar.{part}
 use Rattle.std.proofs.Math.Path.{refl}
-use Rattle.std.proofs.Common.{sym, ap, ◌∙◌, ne_eqb}
+use Rattle.std.proofs.Common.{sym, ap, ◌∙◌, ne_eqb, arith}
 use Rattle.std.proofs.lemmas.Bool.{false≢true}
-use mathlib.Core.List.{List, [], ◌∷◌}
-use native.Mathlib.Omega.{arith}
 use Rattle.std.proofs.Math.Decide.{dec_lt}
 use Rattle.std.proofs.Math.ListN.{drop}
 use Rattle.limits.specs.Limits.{largest_torrent, max_levels}
@@ -17,8 +16,7 @@ use Rattle.bencode.specs.Grammar.{Value, integer, string, list, dictionary, Item
 use Rattle.bencode.specs.DepthLaws.{more_levels}
 use Rattle.bencode.specs.Parts.{Lookup, absent, present, lookup, find_key, FoundIs}
 use Rattle.bencode.specs.PartsLaws.{find_is, find_ends, part_front, lookup_valid}
-use Rattle.bencode.specs.declared.parts.Found.{Found}
-use Rattle.bencode.specs.declared.parts.Found.TheVariants.{Part}
+use Rattle.bencode.specs.declared.part.Part.{Part}
 use Rattle.filetree.specs.Tree.{Listed, Files, wrong, files, right, listed, files_in}
 use Rattle.filetree.specs.Reading.{read_files}
 use Rattle.meaning.specs.Keys.{key_length}
@@ -30,9 +28,6 @@ use Rattle.hybrid.specs.EntryLaws.{is_list_value, list_is, natural_is, natural_n
 use Rattle.hybrid.specs.Tally.{Encodes}
 use Rattle.hybrid.specs.Half.{half_of, several_of, fits_with}
 use Rattle.hybrid.specs.HalfLaws.{half_decides}
-use Rattle.hybrid.specs.declared.Natural.TheVariants.{Is, NoNatural}
-use Rattle.hybrid.specs.declared.HalfRead.{HalfRead}
-use Rattle.hybrid.specs.declared.HalfRead.TheVariants.{Bytes, Misfit}
 use Rattle.torrent.specs.HalvesFit.{StringRead, fit_beside}
 use Rattle.torrent.specs.KeyStringLaws.{string_there}
 use Rattle.torrent.specs.OneFileLaws.{count_other, half_other, half_bad}
@@ -50,18 +45,18 @@ module _ (info : Entries) (gs : List File) where
     unfolding v1_entries
     entries_single = rw no_files refl
 
-    pub single_no_length : NoNatural ≡ natural_in (lookup key_length info) → (plen : ℕ) → Misfit ≡ half_of plen (half_fits info) (v1_entries info) gs
+    pub single_no_length : None ≡ natural_in (lookup key_length info) → (plen : ℕ) → None ≡ half_of plen (half_fits info) (v1_entries info) gs
     single_no_length e plen = half_bad plen (half_fits info) (v1_entries info) gs (fits_single ∙ ap (λ (b : Bool). b && has_string (lookup key_name info)) (natural_not (lookup key_length info) e))
 
-    pub single_no_name : (n : ℕ) → Is n ≡ natural_in (lookup key_length info) → has_string (lookup key_name info) ≡ false → (plen : ℕ) → Misfit ≡ half_of plen (half_fits info) (v1_entries info) gs
+    pub single_no_name : (n : ℕ) → Some n ≡ natural_in (lookup key_length info) → has_string (lookup key_name info) ≡ false → (plen : ℕ) → None ≡ half_of plen (half_fits info) (v1_entries info) gs
     single_no_name n e h plen = half_bad plen (half_fits info) (v1_entries info) gs (fits_single ∙ rw ((natural_is (lookup key_length info) n e).0, h) refl)
 
-    pub single_count : (length gs ≡ 1 → ⊥) → (plen : ℕ) → Misfit ≡ half_of plen (half_fits info) (v1_entries info) gs
+    pub single_count : (length gs ≡ 1 → ⊥) → (plen : ℕ) → None ≡ half_of plen (half_fits info) (v1_entries info) gs
     unfolding files_among
     single_count h plen = half_other plen (half_fits info) (v1_entries info) gs (ap (λ (es : List V1Entry). same_files (files_among es) gs) entries_single ∙ count_other _ gs h)
 
     -- what is said of the file with that length and name
-    pub single_is : (n : ℕ) (name : List ℕ) (plen : ℕ) (r : HalfRead) → Is n ≡ natural_in (lookup key_length info) → has_string (lookup key_name info) ≡ true → name ≡ bytes_of (lookup key_name info)
+    pub single_is : (n : ℕ) (name : List ℕ) (plen : ℕ) (r : Option ℕ) → Some n ≡ natural_in (lookup key_length info) → has_string (lookup key_name info) ≡ true → name ≡ bytes_of (lookup key_name info)
         → r ≡ half_of plen true (one_file n name ∷ []) gs → r ≡ half_of plen (half_fits info) (v1_entries info) gs
     single_is n name plen r e h q z =
         let m = natural_is (lookup key_length info) n e in
@@ -78,11 +73,11 @@ module _ (info : Entries) (gs : List File) where
     unfolding v1_entries
     entries_several = rw there refl
 
-    pub several_length : (t : Bool) → t ≡ is_there (lookup key_length info) → t ≡ true → (plen : ℕ) → Misfit ≡ half_of plen (half_fits info) (v1_entries info) gs
+    pub several_length : (t : Bool) → t ≡ is_there (lookup key_length info) → t ≡ true → (plen : ℕ) → None ≡ half_of plen (half_fits info) (v1_entries info) gs
     several_length t e q plen =
         half_bad plen (half_fits info) (v1_entries info) gs (fits_several ∙ ap (λ (b : Bool). not b && (list_fits (present w) && string_or_none (lookup key_name info))) (sym e ∙ q))
 
-    pub several_name : (t : Bool) → t ≡ string_or_none (lookup key_name info) → t ≡ false → (plen : ℕ) → Misfit ≡ half_of plen (half_fits info) (v1_entries info) gs
+    pub several_name : (t : Bool) → t ≡ string_or_none (lookup key_name info) → t ≡ false → (plen : ℕ) → None ≡ half_of plen (half_fits info) (v1_entries info) gs
     several_name t e q plen =
         half_bad plen (half_fits info) (v1_entries info) gs
         (fits_several ∙ ap (λ (b : Bool). not (is_there (lookup key_length info)) && (list_fits (present w) && b)) (sym e ∙ q) ∙ last (not (is_there (lookup key_length info))) (list_fits (present w)))
@@ -92,7 +87,7 @@ module _ (info : Entries) (gs : List File) where
         last true false = refl
         last false b = refl
 
-    pub several_no_list : is_list_value w ≡ false → (plen : ℕ) → Misfit ≡ half_of plen (half_fits info) (v1_entries info) gs
+    pub several_no_list : is_list_value w ≡ false → (plen : ℕ) → None ≡ half_of plen (half_fits info) (v1_entries info) gs
     several_no_list e plen =
         half_bad plen (half_fits info) (v1_entries info) gs
         (fits_several ∙ ap (λ (b : Bool). not (is_there (lookup key_length info)) && (b && string_or_none (lookup key_name info))) (no_list w e) ∙ none (not (is_there (lookup key_length info))))
@@ -108,7 +103,7 @@ module _ (info : Entries) (gs : List File) where
         no_list (dictionary es) e = refl
 
   pub several_is : (vs : Items) → lookup key_files info ≡ present (list vs) → (t u : Bool) → t ≡ is_there (lookup key_length info) → t ≡ false → u ≡ string_or_none (lookup key_name info) → u ≡ true
-      → (plen : ℕ) (r : HalfRead) → r ≡ half_of plen (items_fit vs) (entries_in vs) gs → r ≡ half_of plen (half_fits info) (v1_entries info) gs
+      → (plen : ℕ) (r : Option ℕ) → r ≡ half_of plen (items_fit vs) (entries_in vs) gs → r ≡ half_of plen (half_fits info) (v1_entries info) gs
   several_is vs there t u et qt eu qu plen r z =
       z ∙ rw (fits_several (list vs) there, entries_several (list vs) there, sym et ∙ qt, sym eu ∙ qu) (ap (λ (b : Bool). half_of plen b (entries_in vs) gs) (all (items_fit vs)))
     where
@@ -118,13 +113,13 @@ module _ (info : Entries) (gs : List File) where
 
 -- ---- the value of `files` as a part of `info`
 
-part_value : (i key : List ℕ) (f : Found) → f ≡ find_key key 0 (drop 0 i) → (a b : ℕ) → f ≡ Part a b → (info : Entries) → StandsAt i 0 (dictionary info)
+part_value : (i key : List ℕ) (f : Option Part) → f ≡ find_key key 0 (drop 0 i) → (a b : ℕ) → f ≡ part a b → (info : Entries) → StandsAt i 0 (dictionary info)
     → (w : Value) × (lookup key info ≡ present w) × (take (b - a) (drop a i) ≡ encode w) × Valid w max_levels
 unfolding cut
 part_value i key f e a b q info s =
     by (lookup key info) refl (rw (sym e ∙ q) at (find_is key i 0 info s.behind s.bytes s.valid))
   where
-    by : (x : Lookup) → lookup key info ≡ x → FoundIs i (Part a b) x → (w : Value) × (lookup key info ≡ present w) × (take (b - a) (drop a i) ≡ encode w) × Valid w max_levels
+    by : (x : Lookup) → lookup key info ≡ x → FoundIs i (part a b) x → (w : Value) × (lookup key info ≡ present w) × (take (b - a) (drop a i) ≡ encode w) × Valid w max_levels
     by absent g k = absurd k
     by (present w) g k =
         let v : Valid w (max_levels - 1) = unfold Valid in lookup_valid key info none (max_levels - 1) w s.valid g in
@@ -149,7 +144,7 @@ right_files (files fs k) e = (k, refl)
 
 -- ---- the half, as the code comes to it
 
-module _ (i : List ℕ) (f : Found) (ef : f ≡ find_key key_files 0 (drop 0 i)) (a b : ℕ) (q : f ≡ Part a b) where
+module _ (i : List ℕ) (f : Option Part) (ef : f ≡ find_key key_files 0 (drop 0 i)) (a b : ℕ) (q : f ≡ part a b) where
   pub files_inside : (a ≤ b) × (b ≤ length i)
   files_inside = let p = find_ends key_files 0 i a b (sym ef ∙ q) in let x = p.1 in let y = p.2 in (omega arith, y)
 
@@ -163,21 +158,21 @@ module _ (i : List ℕ) (f : Found) (ef : f ≡ find_key key_files 0 (drop 0 i))
 
   module _ (plen : ℕ) (gs : List File) where
     pub half_both : (x : Bool) → ((info : Entries) → StandsAt i 0 (dictionary info) → x ≡ is_there (lookup key_length info)) → x ≡ true
-        → (info : Entries) → StandsAt i 0 (dictionary info) → Misfit ≡ half_of plen (half_fits info) (v1_entries info) gs
+        → (info : Entries) → StandsAt i 0 (dictionary info) → None ≡ half_of plen (half_fits info) (v1_entries info) gs
     half_both x ex e info s = let w = part_value i key_files f ef a b q info s in several_length info gs w.0 w.1 x (ex info s) e plen
 
     pub half_name : (x : Bool) → ((info : Entries) → StandsAt i 0 (dictionary info) → x ≡ string_or_none (lookup key_name info)) → x ≡ false
-        → (info : Entries) → StandsAt i 0 (dictionary info) → Misfit ≡ half_of plen (half_fits info) (v1_entries info) gs
+        → (info : Entries) → StandsAt i 0 (dictionary info) → None ≡ half_of plen (half_fits info) (v1_entries info) gs
     half_name x ex e info s = let w = part_value i key_files f ef a b q info s in several_name info gs w.0 w.1 x (ex info s) e plen
 
     pub half_no_list : (x : Bool) → x ≡ is_list (drop a i) → x ≡ false
-        → (info : Entries) → StandsAt i 0 (dictionary info) → Misfit ≡ half_of plen (half_fits info) (v1_entries info) gs
+        → (info : Entries) → StandsAt i 0 (dictionary info) → None ≡ half_of plen (half_fits info) (v1_entries info) gs
     half_no_list x ex e info s =
         let w = part_value i key_files f ef a b q info s in
         several_no_list info gs w.0 w.1 (list_so i a w.0 (value_at w.0 w.2 w.3) x ex ∙ e) plen
 
   -- what is said of the list
-  pub half_several : (t : List ℕ) → right (files_in t) ≡ true → (n : ℕ) → n ≡ length (listed (files_in t)) → (plen : ℕ) (r : HalfRead)
+  pub half_several : (t : List ℕ) → right (files_in t) ≡ true → (n : ℕ) → n ≡ length (listed (files_in t)) → (plen : ℕ) (r : Option ℕ)
       → ((vs : Items) → Encodes (take (b - a) (drop a i)) vs → (fs : List Listed) (k : ℕ) → files_in t ≡ files fs k → n ≡ length fs → r ≡ several_of plen vs (read_files t fs))
       → (x y z : Bool) → ((info : Entries) → StandsAt i 0 (dictionary info) → x ≡ is_there (lookup key_length info)) → x ≡ false
       → ((info : Entries) → StandsAt i 0 (dictionary info) → y ≡ string_or_none (lookup key_name info)) → y ≡ true
@@ -221,14 +216,14 @@ module _ (plen : ℕ) (info : Entries) (gs : List File) (l : 0 < plen) (h : plen
         no_three true false c = refl
         no_three false b c = refl
 
-    module _ (few : length (bytes_of x) ≤ largest_torrent) (r : HalfRead) (er : r ≡ half_of plen (half_fits info) (v1_entries info) gs) where
+    module _ (few : length (bytes_of x) ≤ largest_torrent) (r : Option ℕ) (er : r ≡ half_of plen (half_fits info) (v1_entries info) gs) where
       by_half : Fits ≡ fits_with plen x r
       by_half = fits_hybrid ∙ sym (half_decides plen (half_fits info) (v1_entries info) gs x l h few) ∙ ap (fits_with plen x) (sym er)
 
-      pub fits_misfit : r ≡ Misfit → false ≡ Fits
+      pub fits_misfit : r ≡ None → false ≡ Fits
       fits_misfit g = sym (by_half ∙ ap (fits_with plen x) g)
 
-      module _ (n : ℕ) (g : r ≡ Bytes n) (s : has_string x ≡ true) where
+      module _ (n : ℕ) (g : r ≡ Some n) (s : has_string x ≡ true) where
         by_pieces : Fits ≡ eqb (length (bytes_of x)) (20 * piece_count n plen)
         by_pieces = by_half ∙ ap (fits_with plen x) g ∙ rw s refl
 
@@ -247,7 +242,7 @@ module _ (i : List ℕ) (plen : ℕ) (ep : is_piece_length plen ≡ true) (gs : 
   pub other_pieces : StringRead i key_pieces OtherType → (info : Entries) → StandsAt i 0 (dictionary info) → false ≡ fit_beside plen gs info
   other_pieces w info s = let p = plen_range plen ep in fits_no_string plen info gs p.0 p.1 (w.string info s).0 (w.string info s).1
 
-  module _ (small : length i ≤ largest_torrent) (a b : ℕ) (w : StringRead i key_pieces (Text a b)) (r : HalfRead) (er : (info : Entries) → StandsAt i 0 (dictionary info) → r ≡ half_of plen (half_fits info) (v1_entries info) gs) where
+  module _ (small : length i ≤ largest_torrent) (a b : ℕ) (w : StringRead i key_pieces (Text a b)) (r : Option ℕ) (er : (info : Entries) → StandsAt i 0 (dictionary info) → r ≡ half_of plen (half_fits info) (v1_entries info) gs) where
     module _ (info : Entries) (s : StandsAt i 0 (dictionary info)) where
       size_is : b - a ≡ length (bytes_of (lookup key_pieces info))
       size_is = let x = w.ends.0 in let y = w.ends.1 in sym (cut_length i a (b - a) (omega arith)) ∙ ap length (w.string info s).1
@@ -258,10 +253,10 @@ module _ (i : List ℕ) (plen : ℕ) (ep : is_piece_length plen ≡ true) (gs : 
       there : is_there (lookup key_pieces info) ≡ true
       there = string_there (lookup key_pieces info) (w.string info s).0
 
-    pub pieces_misfit : r ≡ Misfit → (info : Entries) → StandsAt i 0 (dictionary info) → false ≡ fit_beside plen gs info
+    pub pieces_misfit : r ≡ None → (info : Entries) → StandsAt i 0 (dictionary info) → false ≡ fit_beside plen gs info
     pieces_misfit g info s = let p = plen_range plen ep in fits_misfit plen info gs p.0 p.1 (there info s) (few info s) r (er info s) g
 
-    module _ (n : ℕ) (g : r ≡ Bytes n) (k : ℕ) (ek : k ≡ piece_count n plen) where
+    module _ (n : ℕ) (g : r ≡ Some n) (k : ℕ) (ek : k ≡ piece_count n plen) where
       pub pieces_many : largest_torrent < k → (info : Entries) → StandsAt i 0 (dictionary info) → false ≡ fit_beside plen gs info
       pieces_many m info s =
           let p = plen_range plen ep in

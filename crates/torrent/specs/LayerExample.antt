@@ -1,11 +1,10 @@
 -- A torrent with a piece layer that gets 0: one file of 16385 bytes in pieces of 16384, so of two pieces, whose hashes are both zeros. Its
 -- root is what the layer gives; no hash is worked out here, only that it has 32 bytes.
 -- Assumes nothing.
-use Rattle.std.specs.Prelude.{◌≡◌, Bool, true, false, ◌&&◌, ◌||◌, List, [], ◌∷◌, ◌++◌, ℕ, ◌+◌, ◌<◌, length}
+use Rattle.std.specs.Prelude.{◌≡◌, Bool, true, false, ◌&&◌, ◌||◌, List, [], ◌∷◌, ◌++◌, ℕ, ◌<◌, length}
 use Rattle.std.proofs.Math.Path.{refl, ap}
-use Rattle.std.proofs.Common.{sym, ◌∙◌, length-append, eq-eqb}
+use Rattle.std.proofs.Common.{sym, ◌∙◌, length-append, eq-eqb, arith}
 use Rattle.std.proofs.Math.Bool.{cond}
-use native.Mathlib.Omega.{arith}
 use Rattle.meaning.specs.Keys.{key_length, key_pieces_root, key_info, key_file_tree, key_piece_length, key_meta_version, key_piece_layers}
 use Rattle.limits.specs.Limits.{max_levels}
 use Rattle.octets.specs.Octets.{cut, zero_hash, same}

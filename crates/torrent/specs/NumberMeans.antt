@@ -19,8 +19,7 @@ use Rattle.meaning.proofs.FilesLaws.{AllHold, files_hold}
 use Rattle.halves.specs.Decoded.{torrent_in, torrent_in_lem}
 use Rattle.halves.specs.V1Half.{is_hybrid, halves_fit, with_halves, torrent_number}
 use Rattle.halves.proofs.HalvesLaws.{torrent_ranged}
-use Rattle.metainfo.specs.Metainfo.{bytes_in, no_keys, keys_of, metainfo_of}
-use Rattle.metainfo.specs.declared.Keys.{Keys}
+use Rattle.metainfo.specs.Metainfo.{Keys, bytes_in, no_keys, keys_of, metainfo_of}
 use Rattle.filetree.specs.Tree.{Listed, Files, right, listed, files_in}
 use Rattle.filetree.specs.Reading.{read_files}
 use Rattle.twins.specs.Twins.{layer_count}
@@ -29,10 +28,8 @@ use Rattle.joined.specs.LayersMeaning.{layers_number}
 use Rattle.joined.specs.KeysLaws.{KeysAt, keys_number_lem, keys_point, none_exactly}
 use Rattle.metainfo.proofs.Finding.{too_large_lem, strict_keys}
 use Rattle.joined.specs.StrictTorrentLaws.{keys_first, tree_next, torrent_tree, torrent_files}
-use Rattle.torrent.specs.Torrent.{files_number, tree_number, judged_as, judged_of, unread, with_judged, v2_checked_of, checked_of, no_torrent, read_of, no_file_read, file_read, no_part_read, path_read}
+use Rattle.torrent.specs.Torrent.{PartRead, FileRead, files_number, tree_number, judged_as, judged_of, unread, with_judged, v2_checked_of, checked_of, no_torrent, read_of, no_file_read, file_read, no_part_read, path_read}
 use Rattle.torrent.specs.Answers.{Says, too_large, no_encoding, too_deep, encodes}
-use Rattle.torrent.specs.declared.read.FileRead.{FileRead}
-use Rattle.torrent.specs.declared.read.PartRead.{PartRead}
 
 -- ---- the files by positions and the files of the value
 

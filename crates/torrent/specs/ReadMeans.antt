@@ -1,14 +1,11 @@
 -- 01, "The torrent": what is answered of a torrent that gets 0 is what stands in the value that it encodes: the info hash, the piece
 -- length, the files in tree order, each with its length, root, path and layer. `Answers` says what is promised.
 -- Assumes nothing.
-use Rattle.std.specs.Prelude.{◌≡◌, true, ℕ, zero, suc, ◌+◌, ◌-◌, ◌≤◌, ◌<◌}
+use Rattle.std.specs.Prelude.{◌≡◌, true, ℕ, zero, suc, ◌+◌, ◌-◌, ◌≤◌, ◌<◌, List, [], ◌∷◌, ◌++◌, Option, Some, None}
 use Rattle.std.proofs.Math.Path.{refl, sym, ap}
-use Rattle.std.proofs.Common.{◌∙◌}
-use mathlib.Core.List.{List, [], ◌∷◌, ◌++◌}
+use Rattle.std.proofs.Common.{◌∙◌, arith, eq-eqb, ne_eqb, lt-ltb, le-ltb}
 use Rattle.std.proofs.Math.Decide.{dec_lt}
-use native.Mathlib.Omega.{arith}
 use Rattle.std.proofs.Math.ListN.{length, drop, length-append}
-use borrow.Author.Tests.{eq-eqb, ne_eqb, lt-ltb, le-ltb}
 use Rattle.hybrid.specs.HalfLaws.{read_count}
 use Rattle.octets.specs.Octets.{cut, zero_hash}
 use Rattle.octets.specs.OctetsLaws.{cut_cut, cut_size}
@@ -21,19 +18,15 @@ use Rattle.bencode.specs.Parts.{find_key, present, lookup, FoundIs}
 use Rattle.bencode.specs.CompleteLaws.{content_start}
 use Rattle.bencode.specs.DepthLaws.{more_levels}
 use Rattle.bencode.specs.PartsLaws.{part_front, content_is, lookup_valid}
-use Rattle.bencode.specs.declared.scalar.ByteString.{ByteString}
-use Rattle.bencode.specs.declared.scalar.ByteString.TheVariants.{NoString}
-use Rattle.bencode.specs.declared.parts.Found.{Found}
-use Rattle.bencode.specs.declared.parts.Found.TheVariants.{Part, Missing}
+use Rattle.bencode.specs.declared.part.Part.{Part}
 use Rattle.meaning.specs.Nth.{Nth}
 use Rattle.meaning.proofs.NthLaws.{nth_some}
 use Rattle.meaning.specs.Keys.{key_info}
 use Rattle.meaning.specs.Torrent.{File, info_of, tree_of, files_of, plen_of, layers_of, value_number}
 use Rattle.meaning.proofs.AmissLaws.{all_layers}
 use Rattle.halves.proofs.HalvesLaws.{zero_below}
-use Rattle.metainfo.specs.Metainfo.{bytes_in, keys_of, metainfo_of}
+use Rattle.metainfo.specs.Metainfo.{Keys, bytes_in, keys_of, metainfo_of}
 use Rattle.metainfo.specs.MetainfoLaws.{metainfo_right}
-use Rattle.metainfo.specs.declared.Keys.{Keys}
 use Rattle.filetree.specs.Tree.{Element, Listed, right, listed, files_in, file_number}
 use Rattle.layers.specs.Layers.{string_in, layer_at, root_bytes, layer_string, start_of, size_of}
 use Rattle.filetree.specs.Reading.{element, elements, read_file, read_files}
@@ -114,29 +107,29 @@ element_at t base (e ∷ path) (suc k) x n f = element_at t base path k x n f.1
 -- ---- layers
 
 -- the content of a string stands where it is read
-abbrev ContentIs : List ℕ → ℕ → List ℕ → ByteString → Type 0
+abbrev ContentIs : List ℕ → ℕ → List ℕ → Option Part → Type 0
 ContentIs s base b w = (size_of w ≡ length b) × (cut s (start_of base w) (size_of w) ≡ b)
 
 -- a string that is found in a part of s is read as its content
-found_string : (s : List ℕ) (base m : ℕ) (b : List ℕ) (w : Found) → FoundIs (cut s base m) w (present (string b)) → ContentIs s base b (string_in (cut s base m) w)
-found_string s base m b Missing e = absurd e
-found_string s base m b (Part a k) e =
+found_string : (s : List ℕ) (base m : ℕ) (b : List ℕ) (w : Option Part) → FoundIs (cut s base m) w (present (string b)) → ContentIs s base b (string_in (cut s base m) w)
+found_string s base m b None e = absurd e
+found_string s base m b (Some w) e =
     let l = cut s base m in
     let front : encode (string b) ≡ encode_string b = unfold encode in refl in
-    let there : drop a l ≡ encode_string b ++ drop (k - a) (drop a l) = part_front l a k (string b) e ∙ ap (λ (z : List ℕ). z ++ drop (k - a) (drop a l)) front in
+    let there : drop w.start l ≡ encode_string b ++ drop (w.end - w.start) (drop w.start l) = part_front l w.start w.end (string b) e ∙ ap (λ (z : List ℕ). z ++ drop (w.end - w.start) (drop w.start l)) front in
     let la = length-append (decimal (length b)) (colon ∷ b) in
-    let size : a + length (encode_string b) - content_start a b ≡ length b = omega arith in
-    let content : cut l (content_start a b) (a + length (encode_string b) - content_start a b) ≡ b = content_is l b (drop (k - a) (drop a l)) a there in
-    let whole : cut s (base + content_start a b) (a + length (encode_string b) - content_start a b) ≡ b =
-    part_of_part s base m (content_start a b) (a + length (encode_string b) - content_start a b) (ap length content ∙ sym size) ∙ content in
-    rw (string_there l a k (string b) e) (size, whole)
+    let size : w.start + length (encode_string b) - content_start w.start b ≡ length b = omega arith in
+    let content : cut l (content_start w.start b) (w.start + length (encode_string b) - content_start w.start b) ≡ b = content_is l b (drop (w.end - w.start) (drop w.start l)) w.start there in
+    let whole : cut s (base + content_start w.start b) (w.start + length (encode_string b) - content_start w.start b) ≡ b =
+    part_of_part s base m (content_start w.start b) (w.start + length (encode_string b) - content_start w.start b) (ap length content ∙ sym size) ∙ content in
+    rw (string_there l w.start w.end (string b) e) (size, whole)
 
 -- what is found for a root, by another name of the root
 found_as : (l root key b : List ℕ) (ls : Entries) → root ≡ key → lookup root ls ≡ present (string b) → FoundIs l (find_key root 0 l) (lookup root ls) → FoundIs l (find_key key 0 l) (present (string b))
 found_as l root key b ls e f w = let g : FoundIs l (find_key root 0 l) (present (string b)) = rw f at w in rw e at g
 
 -- for no other file is there one
-layer_none : (l : List ℕ) (plen n : ℕ) (root : List ℕ) → n ≤ plen → layer_string l plen n root ≡ NoString
+layer_none : (l : List ℕ) (plen n : ℕ) (root : List ℕ) → n ≤ plen → layer_string l plen n root ≡ None
 unfolding layer_string has_layer
 layer_none l plen n root h = rw (le-ltb plen n h) refl
 

@@ -1,25 +1,62 @@
 -- 01, "The torrent": what is answered of a torrent s, by its parts: t is the part that `file tree` is, l the part that `piece layers`
 -- is. A position that is answered is the part's start and the position in it.
 -- Assumes nothing.
-use Rattle.std.specs.Prelude.{cond, not, ◌&&◌, ◌||◌, List, [], ◌∷◌, ℕ, zero, suc, ◌+◌, ◌-◌, length, eqb, ltb}
+use Rattle.std.specs.Prelude.{cond, not, ◌&&◌, ◌||◌, List, [], ◌∷◌, ℕ, zero, suc, ◌+◌, ◌-◌, length, eqb, ltb, Result, Ok, Err}
 use Rattle.octets.specs.Octets.{cut, zero_hash}
+use Rattle.numbers.specs.Refusals.{number_of}
+use Rattle.numbers.specs.declared.Refused.{Refused}
 use Rattle.numbers.specs.Numbers.{wrong_tree, two_lengths, layers_amiss, no_such_part, halves_differ}
 use Rattle.sha256.specs.Sha256.{sha256}
 use Rattle.bencode.specs.Grammar.{Entries}
 use Rattle.meaning.specs.Torrent.{lengths_agree}
 use Rattle.halves.specs.Decoded.{torrent_in}
 use Rattle.halves.specs.V1Half.{is_hybrid, halves_fit}
-use Rattle.metainfo.specs.Metainfo.{bytes_in, no_keys, metainfo_of}
-use Rattle.metainfo.specs.declared.Keys.{Keys}
+use Rattle.metainfo.specs.Metainfo.{Keys, bytes_in, no_keys, found_keys, metainfo_of}
 use Rattle.filetree.specs.Tree.{Element, Listed, Files, right, listed, files_in, file_number}
 use Rattle.filetree.specs.Reading.{read_files}
 use Rattle.twins.specs.Twins.{layer_count}
 use Rattle.layers.specs.Layers.{keys_wide, layer_keys, worst, root_bytes, layer_string, start_of, size_of}
-use Rattle.torrent.specs.declared.check.Judged.{Judged}
-use Rattle.torrent.specs.declared.check.Checked.{Checked}
-use Rattle.torrent.specs.declared.read.Torrent.{Torrent}
-use Rattle.torrent.specs.declared.read.FileRead.{FileRead}
-use Rattle.torrent.specs.declared.read.PartRead.{PartRead}
+use Rattle.torrent.specs.declared.check.Judged.{Judged as JudgedFound}
+use Rattle.torrent.specs.declared.check.Checked.{Checked as CheckedFound}
+use Rattle.torrent.specs.declared.read.Torrent.{Torrent as TorrentFound}
+use Rattle.torrent.specs.declared.read.FileRead.{FileRead as FileFound}
+use Rattle.torrent.specs.declared.read.PartRead.{PartRead as PartFound}
+
+-- ---- what is answered: 0 and what was found, or a number beside zeros
+
+-- how many files, and how many layers
+pub record Judged : Type 0 where
+  pub number : ℕ
+  pub files : ℕ
+  pub layered : ℕ
+
+-- the keys with the number, and the same counts
+pub record Checked : Type 0 where
+  pub keys : Keys
+  pub files : ℕ
+  pub layered : ℕ
+
+-- the info hash, the piece length and how many files
+pub record Torrent : Type 0 where
+  pub number : ℕ
+  pub hash : List ℕ
+  pub plen : ℕ
+  pub files : ℕ
+
+-- a file: its length, its root, how many path elements, and its layer's part
+pub record FileRead : Type 0 where
+  pub number : ℕ
+  pub length : ℕ
+  pub root : List ℕ
+  pub elements : ℕ
+  pub start : ℕ
+  pub size : ℕ
+
+-- a part of the torrent
+pub record PartRead : Type 0 where
+  pub number : ℕ
+  pub start : ℕ
+  pub size : ℕ
 
 -- ---- 25 to 28, the lowest
 
@@ -31,6 +68,10 @@ files_number t l plen fs =
 
 unfoldable pub tree_number : List ℕ → List ℕ → ℕ → Files → ℕ
 tree_number t l plen fs = cond (right fs) (files_number t l plen (listed fs)) wrong_tree
+
+abbrev pub as_judged : Result JudgedFound Refused → Judged
+as_judged (Ok j) = record { number = 0; files = j.files; layered = j.layered }
+as_judged (Err why) = record { number = number_of why; files = 0; layered = 0 }
 
 -- beside a refusal the counts are zero
 abbrev pub judged_as : ℕ → ℕ → ℕ → Judged
@@ -44,6 +85,10 @@ judged_of t l plen = judged_as (tree_number t l plen (files_in t)) (length (list
 
 abbrev pub unread : ℕ → Checked
 unread n = record { keys = no_keys n; files = 0; layered = 0 }
+
+abbrev pub as_checked : Result CheckedFound Refused → Checked
+as_checked (Ok c) = record { keys = found_keys c.keys; files = c.files; layered = c.layered }
+as_checked (Err why) = unread (number_of why)
 
 abbrev pub with_judged : Keys → Judged → Checked
 with_judged k j = cond (eqb j.number 0) (record { keys = k; files = j.files; layered = j.layered }) (unread j.number)
@@ -72,6 +117,10 @@ checked_of s = with_half (torrent_in s) (v2_checked_of s)
 abbrev pub no_torrent : ℕ → Torrent
 no_torrent n = record { number = n; hash = zero_hash; plen = 0; files = 0 }
 
+abbrev pub as_torrent : Result TorrentFound Refused → Torrent
+as_torrent (Ok t) = record { number = 0; hash = t.hash; plen = t.plen; files = t.files }
+as_torrent (Err why) = no_torrent (number_of why)
+
 -- the info hash is that of the value of `info` as it stands
 abbrev pub with_checked : List ℕ → Checked → Torrent
 with_checked s c =
@@ -86,6 +135,14 @@ read_of s = with_checked s (checked_of s)
 
 abbrev pub no_file_read : ℕ → FileRead
 no_file_read n = record { number = n; length = 0; root = zero_hash; elements = 0; start = 0; size = 0 }
+
+-- a file that was read
+abbrev pub found_file : FileFound → FileRead
+found_file f = record { number = 0; length = f.length; root = f.root; elements = f.elements; start = f.start; size = f.size }
+
+abbrev pub as_file : Result FileFound Refused → FileRead
+as_file (Ok f) = found_file f
+as_file (Err why) = no_file_read (number_of why)
 
 -- the file f; l begins at `base`
 abbrev pub file_answer : List ℕ → List ℕ → ℕ → ℕ → Listed → FileRead
@@ -115,6 +172,10 @@ file_read s n = file_in s n (checked_of s)
 
 abbrev pub no_part_read : ℕ → PartRead
 no_part_read n = record { number = n; start = 0; size = 0 }
+
+abbrev pub as_part : Result PartFound Refused → PartRead
+as_part (Ok p) = record { number = 0; start = p.start; size = p.size }
+as_part (Err why) = no_part_read (number_of why)
 
 -- t begins at `base`
 unfoldable pub element_in : ℕ → List Element → ℕ → PartRead

@@ -1,12 +1,10 @@
 -- 02, request 2: a torrent with the same image in two folders that gets 0. The image has 16385 bytes, so two pieces of 16384; both files
 -- have one root, and `piece layers` has one entry for both.
 -- Assumes nothing.
-use Rattle.std.specs.Prelude.{◌≡◌, Bool, false, not, ◌&&◌, ◌||◌, ℕ, ◌+◌, ◌<◌, length}
+use Rattle.std.specs.Prelude.{◌≡◌, Bool, false, not, ◌&&◌, ◌||◌, ℕ, ◌<◌, length, List, [], ◌∷◌, ◌++◌}
 use Rattle.std.proofs.Math.Path.{refl, ap, ap₂}
-use Rattle.std.proofs.Common.{sym, ◌∙◌, eq-eqb}
+use Rattle.std.proofs.Common.{sym, ◌∙◌, eq-eqb, arith}
 use Rattle.std.proofs.Math.Bool.{true, cond}
-use mathlib.Core.List.{List, [], ◌∷◌, ◌++◌}
-use native.Mathlib.Omega.{arith}
 use Rattle.meaning.specs.Keys.{key_length, key_pieces_root, key_info, key_file_tree, key_meta_version, key_piece_layers}
 use Rattle.limits.specs.Limits.{max_levels}
 use Rattle.octets.specs.Octets.{cut, zero_hash, same}
@@ -22,13 +20,11 @@ use Rattle.meaning.specs.Nth.{Nth}
 use Rattle.meaning.specs.Torrent.{File, is_number, info_of, tree_of, files_of, plen_of, layers_of, without, has_keys, element_right, file_right, node_right, branch_right, nodes_right, tree_right, files_of_node, files_of_entries, no_other_length, lengths_agree, layer_fits, layers_fit, some_longer, no_others, gives_root, layer_bytes, layers_give_roots}
 use Rattle.halves.specs.V1Keys.{key_pieces}
 use Rattle.halves.specs.V1Half.{torrent_number}
-use Rattle.torrent.specs.Torrent.{read_of, file_read, path_read}
+use Rattle.torrent.specs.Torrent.{FileRead, Torrent, read_of, file_read, path_read}
 use Rattle.torrent.specs.NumberMeans.{number_is_the_values, read_number_lem}
 use Rattle.torrent.specs.Answers.{FileIs, PartIs}
 use Rattle.torrent.specs.ReadMeans.{torrent_is, info_hash, file_is, element_is, same_part}
 use Rattle.torrent.specs.LayerExample.{all_pass, layer, string_size, value_size, after_tree, the_root, root_size, layer_size}
-use Rattle.torrent.specs.declared.read.Torrent.{Torrent}
-use Rattle.torrent.specs.declared.read.FileRead.{FileRead}
 
 -- `image`
 abbrev name : List ℕ

@@ -8,8 +8,9 @@ ghost use Rattle.filetree.specs.Path.{path_size};
 ghost use Rattle.layers.specs.Layers.{layer_at, root_bytes, layer_string};
 ghost use Rattle.torrent.specs.Find.{Finds, FoundFile};
 
-use bencode::parts::{Found, find};
-use bencode::scalar::{ByteString, read_string};
+use bencode::part::Part;
+use bencode::parts::find;
+use bencode::scalar::read_string;
 use filetree::count::ELEMENTS;
 use filetree::path::set_element;
 use filetree::token::{Token, read_token};
@@ -45,21 +46,24 @@ fn find_in(tree: &[u8], at: usize, levels: usize, file: usize, path: &mut [usize
     let depth = ELEMENTS - levels;
     let mut left = file;
     let mut i = at;
+    // A cursor: the next position comes from the bytes, so no index is counted.
     while i < tree.len() {
         match read_token(tree, i) {
-            Token::BadToken => {
+            None => {
                 return Search::WrongTree;
             }
-            Token::Closed => {
+            Some(Token::Closed) => {
                 return Search::Past { next: i + 1, left };
             }
-            Token::Leaf {
-                start,
-                end,
-                length,
-                root,
-                next,
-            } => {
+            Some(
+                Token::Leaf {
+                    start,
+                    end,
+                    length,
+                    root,
+                    next,
+                },
+            ) => {
                 if left == 0 {
                     set_element(path, depth, start, end);
                     let place = SoughtFile {
@@ -72,7 +76,7 @@ fn find_in(tree: &[u8], at: usize, levels: usize, file: usize, path: &mut [usize
                 left -= 1;
                 i = next;
             }
-            Token::Opened { start, end } => {
+            Some(Token::Opened { start, end }) => {
                 set_element(path, depth, start, end);
                 match find_in(tree, end + 1, below, left, path) {
                     Search::Here { place } => {
@@ -126,22 +130,20 @@ pub fn root_of(tree: &[u8], length: usize, root: usize) -> [u8; 32]
 }
 
 // The string that the dictionary `layers` has for a root.
-fn layer_at(layers: &[u8], root: &[u8]) -> ByteString
+fn layer_at(layers: &[u8], root: &[u8]) -> Option<Part>
     ensures { result ≡ layer_at layers.now root.now }
 {
-    match find(layers, 0, root) {
-        Found::Missing => ByteString::NoString,
-        Found::Part { start, end: _ } => read_string(layers, start),
-    }
+    let found = find(layers, 0, root)?;
+    read_string(layers, found.start)
 }
 
 // The layer of a file of `length` bytes with its root at `root`; none if it is not longer than the piece length.
-pub fn layer_of(tree: &[u8], layers: &[u8], plen: usize, length: usize, root: usize) -> ByteString
+pub fn layer_of(tree: &[u8], layers: &[u8], plen: usize, length: usize, root: usize) -> Option<Part>
     requires { (length ≡ 0 → ⊥) → root + 32 ≤ L.length tree.now }
     ensures { result ≡ layer_string layers.now plen length (cut tree.now root 32) }
 {
     if has_layer(length, plen) {
         return layer_at(layers, &tree[root..root + 32]);
     }
-    ByteString::NoString
+    None
 }

@@ -4,26 +4,25 @@ ghost use Rattle.std.proofs.Math.ListN as L;
 ghost use Rattle.limits.specs.Limits.{largest_torrent};
 ghost use Rattle.filetree.specs.Tree.{files_in, right, listed, file_number};
 ghost use Rattle.torrent.specs.Find.{PathGiven, ElementRead};
-ghost use Rattle.torrent.specs.Torrent.{no_torrent, read_of, no_file_read, file_answer, file_read, no_part_read, element_in, path_read};
+ghost use Rattle.torrent.specs.Torrent.{as_torrent, read_of, found_file, as_file, file_answer, file_read, as_part, element_in, path_read};
 
 use crate::check::check;
 use crate::one::{find_file, layer_of, root_of};
-use bencode::scalar::ByteString;
+use bencode::part::Part;
 use filetree::path::PATH;
+use numbers::Refused;
 
-// 0, the info hash, the piece length and how many files; or 19 to 28 or 31 beside zeros.
+// The info hash, the piece length and how many files.
 #[derive(Clone, Copy)]
 pub struct Torrent {
-    pub number: u32,
     pub hash: [u8; 32],
     pub plen: usize,
     pub files: usize,
 }
 
-// 0 and a file: its length, its root, how many path elements, and its layer's part; or 19 to 29 or 31 beside zeros.
+// A file: its length, its root, how many path elements, and its layer's part, 0 and 0 if it has none.
 #[derive(Clone, Copy)]
 pub struct FileRead {
-    pub number: u32,
     pub length: usize,
     pub root: [u8; 32],
     pub elements: usize,
@@ -31,72 +30,32 @@ pub struct FileRead {
     pub size: usize,
 }
 
-// 0 and a part of the torrent; or 19 to 29 or 31 beside zeros.
+// A part of the torrent.
 #[derive(Clone, Copy)]
 pub struct PartRead {
-    pub number: u32,
     pub start: usize,
     pub size: usize,
 }
 
-fn no_torrent(number: u32) -> Torrent
-    ensures { result ≡ no_torrent number }
+// The torrent itself; or 19 to 28 or 31.
+pub fn read(torrent: &[u8]) -> Result<Torrent, Refused>
+    ensures { as_torrent result ≡ read_of torrent.now }
 {
-    Torrent {
-        number,
-        hash: [0u8; 32],
-        plen: 0,
-        files: 0,
-    }
-}
-
-fn no_file(number: u32) -> FileRead
-    ensures { result ≡ no_file_read number }
-{
-    FileRead {
-        number,
-        length: 0,
-        root: [0u8; 32],
-        elements: 0,
-        start: 0,
-        size: 0,
-    }
-}
-
-fn no_part(number: u32) -> PartRead
-    ensures { result ≡ no_part_read number }
-{
-    PartRead {
-        number,
-        start: 0,
-        size: 0,
-    }
-}
-
-// The torrent itself.
-pub fn read(torrent: &[u8]) -> Torrent
-    ensures { result ≡ read_of torrent.now }
-{
-    let c = check(torrent);
-    let number = c.keys.number;
+    let c = check(torrent)?;
     let info = c.keys.info.start;
     let past = c.keys.info.end;
-    if number == 0 {
-        let hash = sha256::hash(&torrent[info..past]);
-        return Torrent {
-            number,
-            hash,
-            plen: c.keys.plen,
-            files: c.files,
-        };
-    }
-    no_torrent(number)
+    let hash = sha256::hash(&torrent[info..past]);
+    Ok(Torrent {
+        hash,
+        plen: c.keys.plen,
+        files: c.files,
+    })
 }
 
 // File `file` of the right `tree`; `layers` begins at `base` of the torrent.
 fn one_file(tree: &[u8], layers: &[u8], base: usize, plen: usize, file: usize) -> FileRead
     requires { (right (files_in tree.now) ≡ true) × (file < L.length (listed (files_in tree.now))) × (base + L.length layers.now ≤ largest_torrent) }
-    ensures { result ≡ file_answer tree.now layers.now base plen (file_number (listed (files_in tree.now)) file) }
+    ensures { found_file result ≡ file_answer tree.now layers.now base plen (file_number (listed (files_in tree.now)) file) }
 {
     let mut path = [0usize; PATH];
     let f = find_file(tree, file, &mut path);
@@ -105,16 +64,14 @@ fn one_file(tree: &[u8], layers: &[u8], base: usize, plen: usize, file: usize) -
     let elements = f.elements;
     let root = root_of(tree, length, at);
     match layer_of(tree, layers, plen, length, at) {
-        ByteString::NoString => FileRead {
-            number: 0,
+        None => FileRead {
             length,
             root,
             elements,
             start: 0,
             size: 0,
         },
-        ByteString::Content { start, end } => FileRead {
-            number: 0,
+        Some(Part { start, end }) => FileRead {
             length,
             root,
             elements,
@@ -124,74 +81,68 @@ fn one_file(tree: &[u8], layers: &[u8], base: usize, plen: usize, file: usize) -
     }
 }
 
-// File `file` in tree order, from 0.
-pub fn read_file(torrent: &[u8], file: usize) -> FileRead
-    ensures { result ≡ file_read torrent.now file }
+// File `file` in tree order, from 0; or 19 to 29 or 31.
+pub fn read_file(torrent: &[u8], file: usize) -> Result<FileRead, Refused>
+    ensures { as_file result ≡ file_read torrent.now file }
 {
-    let c = check(torrent);
-    let number = c.keys.number;
+    let c = check(torrent)?;
     let plen = c.keys.plen;
     let tree = c.keys.tree.start;
     let tree_end = c.keys.tree.end;
     let layers = c.keys.layers.start;
     let layers_end = c.keys.layers.end;
-    let files = c.files;
-    if number == 0 {
-        if file < files {
-            return one_file(
-                &torrent[tree..tree_end],
-                &torrent[layers..layers_end],
-                layers,
-                plen,
-                file,
-            );
-        }
-        return no_file(numbers::NO_SUCH_PART);
+    if file >= c.files {
+        return Err(Refused::NoSuchPart);
     }
-    no_file(number)
+    Ok(one_file(
+        &torrent[tree..tree_end],
+        &torrent[layers..layers_end],
+        layers,
+        plen,
+        file,
+    ))
 }
 
-// Element `element` of a path of so many elements, of a tree that begins at `base` of the torrent.
-fn element_of(path: &[usize], elements: usize, base: usize, element: usize) -> PartRead
+// Element `element` of a path of so many elements, of a tree that begins at `base` of the torrent; or 29.
+fn element_of(
+    path: &[usize],
+    elements: usize,
+    base: usize,
+    element: usize,
+) -> Result<PartRead, Refused>
     requires { PathGiven path.now elements base }
-    ensures { ElementRead path.now elements base element result }
+    ensures { ElementRead path.now elements base element (as_part result) }
 {
     if element < elements {
         let start = path[2 * element];
         let end = path[2 * element + 1];
-        return PartRead {
-            number: 0,
+        return Ok(PartRead {
             start: base + start,
             size: end - start,
-        };
+        });
     }
-    no_part(numbers::NO_SUCH_PART)
+    Err(Refused::NoSuchPart)
 }
 
-// Element `element` of the path of `file` of the right `tree`, which begins at `base` of the torrent.
-fn one_element(tree: &[u8], base: usize, file: usize, element: usize) -> PartRead
+// Element `element` of the path of `file` of the right `tree`, which begins at `base` of the torrent; or 29.
+fn one_element(tree: &[u8], base: usize, file: usize, element: usize) -> Result<PartRead, Refused>
     requires { (right (files_in tree.now) ≡ true) × (file < L.length (listed (files_in tree.now))) × (base + L.length tree.now ≤ largest_torrent) }
-    ensures { result ≡ element_in base (file_number (listed (files_in tree.now)) file).path element }
+    ensures { as_part result ≡ element_in base (file_number (listed (files_in tree.now)) file).path element }
 {
     let mut path = [0usize; PATH];
     let f = find_file(tree, file, &mut path);
     element_of(&path, f.elements, base, element)
 }
 
-// Element `element`, from 0, of the path of `file`.
-pub fn read_path(torrent: &[u8], file: usize, element: usize) -> PartRead
-    ensures { result ≡ path_read torrent.now file element }
+// Element `element`, from 0, of the path of `file`; or 19 to 29 or 31.
+pub fn read_path(torrent: &[u8], file: usize, element: usize) -> Result<PartRead, Refused>
+    ensures { as_part result ≡ path_read torrent.now file element }
 {
-    let c = check(torrent);
-    let number = c.keys.number;
+    let c = check(torrent)?;
     let tree = c.keys.tree.start;
     let tree_end = c.keys.tree.end;
-    let files = c.files;
-    if number == 0 {
-        if file < files {
-            return one_element(&torrent[tree..tree_end], tree, file, element);
-        }
-        return no_part(numbers::NO_SUCH_PART);
+    if file >= c.files {
+        return Err(Refused::NoSuchPart);
     }
-    no_part(number)
+    one_element(&torrent[tree..tree_end], tree, file, element)
 }

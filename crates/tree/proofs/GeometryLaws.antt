@@ -1,11 +1,10 @@
 -- What follows from the definitions of Geometry: rounding up, the height, padding, piece lengths, sizes, node numbers.
 -- Assumes nothing.
 use Rattle.std.specs.Prelude.{◌≡◌, refl, true, false, cond, ℕ, zero, suc, ◌+◌, ◌-◌, ◌*◌, ◌/◌, ◌%◌, ◌^◌, ◌≤◌, ◌<◌, leb, eqb}
-use Rattle.std.proofs.Common.{ap, sym, ◌∙◌, add-mul, one-mul, mul-one, zero-mul, mul_assoc, mul_comm, div-lt_iff_lt-mul, mul-le-mul_left, le_antisymm, pow_pos, pow_mono, pow-add, shl_exact, le-leb, leb-true, eqb-true, eq-eqb, ltb-true, lt-ltb}
+use Rattle.std.proofs.Common.{ap, sym, ◌∙◌, add-mul, one-mul, mul-one, zero-mul, mul_assoc, mul_comm, div-lt_iff_lt-mul, mul-le-mul_left, le_antisymm, pow_pos, pow_mono, pow-add, shl_exact, le-leb, leb-true, eqb-true, eq-eqb, ltb-true, lt-ltb, arith}
 use Rattle.std.proofs.Math.Bool.{and-true, and-false, and-eq-true_iff}
 use Rattle.std.proofs.Math.Nat.{add-div_right, pow-succ', div-zero, mul-div_cancel_left, one-le-mul}
 use Rattle.std.proofs.Math.Decide.{dec_le, dec_lt}
-use native.Mathlib.Omega.{arith}
 use Rattle.std.proofs.Math.Pow.{pow-lt}
 use Rattle.std.proofs.lemmas.Bool.{lt-leb}
 use Rattle.tree.specs.Geometry.{block_length, ceil_div, block_count, height_from, height, Padding, covering, node_number, piece_layer, is_piece_length, piece_count, block_size, piece_size, has_layer}

@@ -1,12 +1,7 @@
 -- What the code's turns and returns give, over plain variables: one law for each.
 -- Assumes nothing.
-use mathlib.Core.Path.{◌≡◌, refl, ap, sym, ◌∙◌}
-use mathlib.Core.List.{List}
-use Prim.Native.Nat.{ℕ, ◌+◌, ◌-◌, ◌*◌, ◌/◌, ◌%◌, ◌^◌, ◌≤◌, ◌<◌, min}
-use native.Mathlib.Numerals.{add-one}
-use native.Mathlib.Omega.{arith}
-use lib.ListN.{length, take, drop, replicate}
-use lib.Pow.{shl_exact}
+use Rattle.std.specs.Prelude.{◌≡◌, refl, List, ℕ, ◌+◌, ◌-◌, ◌*◌, ◌/◌, ◌%◌, ◌^◌, ◌≤◌, ◌<◌, min, length, take, drop, replicate}
+use Rattle.std.proofs.Common.{ap, sym, ◌∙◌, add-one, arith, shl_exact}
 use Rattle.octets.specs.Octets.{cut, zero_hash}
 use Rattle.octets.specs.OctetsLaws.{cut_short}
 use Rattle.sha256.specs.Sha256.{sha256, pair_hash}
@@ -41,9 +36,6 @@ pad_first = refl
 pub pad_next : (v w : List ℕ) (i : ℕ) → v ≡ pad_value i → w ≡ pair_hash v v → w ≡ pad_value (i + 1)
 unfolding pad_value
 pad_next v w i e f = rw add-one (f ∙ ap (λ (x : List ℕ). pair_hash x x) e)
-
-pub pad_done : (v : List ℕ) (i l : ℕ) → v ≡ pad_value i → i ≤ l → l ≤ i → v ≡ pad_value l
-pad_done v i l e a b = let q : i ≡ l = omega arith in e ∙ ap pad_value q
 
 -- ---- leaf_of
 

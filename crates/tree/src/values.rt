@@ -10,11 +10,9 @@ pub fn pad_value(layer: usize) -> [u8; 32]
     ensures { result ≡ pad_value layer }
 {
     let mut v = [0u8; 32];
-    let mut i = 0;
-    while i < layer {
+    for _i in 0..layer {
         let w = pair(v, v);
         v = w;
-        i += 1;
     }
     v
 }

@@ -1,16 +1,8 @@
 -- A file met, and places forgotten, as the code does it.
 -- Assumes nothing.
-use mathlib.Core.Path.{◌≡◌, refl, sym, ap, ◌∙◌}
-use mathlib.Core.Logic.{inl, inr}
-use mathlib.Core.Bool.{Bool, true, false, cond, not, ◌&&◌}
-use mathlib.Core.List.{List, ◌∷◌, ◌++◌}
-use Prim.Native.Nat.{ℕ, zero, suc, ◌+◌, ◌-◌, ◌≤◌, ◌<◌}
-use native.Mathlib.Omega.{arith}
-use native.Mathlib.Numerals.{add-one}
-use lib.ListN.{length, get_or, set, take, drop, replicate, length-replicate, length-append, length-drop, get_or-replicate}
-use lib.Dec.{eqb}
-use lib.Seq.{drop-cons, set_at, take_at, get_or-take}
-use borrow.Author.Tests.{eq-eqb, ne_eqb}
+use Rattle.std.specs.Prelude.{◌≡◌, refl, Bool, true, false, cond, not, ◌&&◌, List, ◌++◌, ℕ, ◌+◌, ◌-◌, ◌≤◌, ◌<◌, length, get_or, set, take, drop, replicate, eqb, Option}
+use Rattle.std.proofs.Common.{sym, ap, ◌∙◌, inl, inr, arith, length-append, length-drop, take_at, get_or-take, eq-eqb, ne_eqb}
+use Rattle.std.proofs.lemmas.List.{length-replicate, get_or-replicate}
 use Rattle.octets.specs.Octets.{cut}
 use Rattle.tree.specs.Geometry.{has_layer}
 use Rattle.sorting.specs.Sorting.{Stands, SearchedFor}
@@ -26,7 +18,7 @@ module _ (t : List ℕ) (p : ℕ) where
   unfolding size_noted
   size_none e = rw (eq-eqb p 0 e) refl
 
-  pub size_token : (p ≡ 0 → ⊥) → (x : Token) → token_at t p ≡ x → token_size x ≡ size_noted t p
+  pub size_token : (p ≡ 0 → ⊥) → (x : Option Token) → token_at t p ≡ x → token_size x ≡ size_noted t p
   unfolding size_noted
   size_token h x e = rw (ne_eqb p 0 h, e) refl
 
@@ -71,19 +63,6 @@ module _ (layered known n plen : ℕ) where
   one_known h = rw (ne_eqb known 0 h) refl
 
 -- ---- places forgotten
-
-pub zeros_more : (i : ℕ) (l : List ℕ) → replicate i 0 ++ 0 ∷ l ≡ replicate (suc i) 0 ++ l
-zeros_more i l = zeros i
-  where
-    zeros : (i : ℕ) → replicate i 0 ++ 0 ∷ l ≡ replicate (suc i) 0 ++ l
-    zeros zero = refl
-    zeros (suc i) = ap (λ (x : List ℕ). 0 ∷ x) (zeros i)
-
-pub forget_one : (room₀ room : List ℕ) (i : ℕ) → room ≡ replicate i 0 ++ drop i room₀ → i < length room₀ → set room i 0 ≡ replicate (i + 1) 0 ++ drop (i + 1) room₀
-forget_one room₀ room i e h =
-    ap (λ (l : List ℕ). set l i 0) (e ∙ ap (λ (l : List ℕ). replicate i 0 ++ l) (drop-cons room₀ i 0 h))
-    ∙ set_at (replicate i 0) (get_or room₀ i 0) (drop (suc i) room₀) 0 i (length-replicate {A = ℕ} i 0)
-    ∙ rw (add-one i) (zeros_more i (drop (suc i) room₀))
 
 pub forgotten_length : (room₀ room : List ℕ) (i : ℕ) → room ≡ replicate i 0 ++ drop i room₀ → i ≤ length room₀ → length room ≡ length room₀
 forgotten_length room₀ room i e h = ap length e ∙ omega (arith, length-append (replicate i 0) (drop i room₀), length-replicate {A = ℕ} i 0, length-drop i room₀)

@@ -1,7 +1,7 @@
 -- 02, request 2: files with one root. Files that are not empty and have one root have one length; files longer than the piece length
 -- that have one root share one layer.
 -- Assumes nothing.
-use Rattle.std.specs.Prelude.{◌≡◌, ◌⊎◌, Bool, true, cond, not, ◌&&◌, List, [], ◌∷◌, ℕ, ◌+◌, ◌≤◌, ◌<◌, length, get_or, set, eqb}
+use Rattle.std.specs.Prelude.{◌≡◌, ◌⊎◌, Bool, true, cond, not, ◌&&◌, List, [], ◌∷◌, ℕ, ◌+◌, ◌≤◌, ◌<◌, length, get_or, set, eqb, Option, Some, None}
 use Rattle.octets.specs.Octets.{cut, same}
 use Rattle.tree.specs.Geometry.{has_layer}
 use Rattle.meaning.specs.Torrent.{File, lengths_agree}
@@ -9,9 +9,7 @@ use Rattle.sorting.specs.Sorting.{Ascending, Stands}
 use Rattle.filetree.specs.Token.{token_at}
 use Rattle.filetree.specs.Tree.{Listed, listed, files_in}
 use Rattle.filetree.specs.declared.token.Token.{Token}
-use Rattle.filetree.specs.declared.token.Token.TheVariants.{Opened, Closed, Leaf, BadToken}
-use Rattle.twins.specs.declared.Compared.{Compared}
-use Rattle.twins.specs.declared.Compared.TheVariants.{Agree, Differ}
+use Rattle.filetree.specs.declared.token.Token.TheVariants.{Opened, Closed, Leaf}
 
 -- ---- the layers that there are
 
@@ -35,8 +33,8 @@ unfoldable pub layer_count : ℕ → List File → ℕ
 layer_count plen vs = length (once_each (long_roots plen vs))
 
 -- what is answered of the files: how many layers they have, or that two with one root have different lengths
-unfoldable pub compared_of : ℕ → List File → Compared
-compared_of plen vs = cond (lengths_agree vs) (Agree (layer_count plen vs)) Differ
+unfoldable pub compared_of : ℕ → List File → Option ℕ
+compared_of plen vs = cond (lengths_agree vs) (Some (layer_count plen vs)) None
 
 -- ---- what a walk over the files knows of a root
 
@@ -49,11 +47,11 @@ length_known x (v ∷ vs) = cond (not (eqb v.size 0) && same x v.root) v.size (l
 abbrev pub differs : ℕ → ℕ → Bool
 differs known n = not (eqb known 0) && not (eqb known n)
 
-abbrev pub token_size : Token → ℕ
-token_size BadToken = 0
-token_size Closed = 0
-token_size (Opened a b) = 0
-token_size (Leaf a b n r k) = n
+abbrev pub token_size : Option Token → ℕ
+token_size None = 0
+token_size (Some Closed) = 0
+token_size (Some (Opened a b)) = 0
+token_size (Some (Leaf a b n r k)) = n
 
 -- the length of the file that stands at p of the tree; 0 at 0, where none stands
 unfoldable pub size_noted : List ℕ → ℕ → ℕ

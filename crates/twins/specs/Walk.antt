@@ -1,14 +1,13 @@
 -- The files of a right tree met one after the other, a directory at a time: what is known before a directory, and what of it then. Only a
 -- private function's contract cites this.
 -- Assumes nothing.
-use Rattle.std.specs.Prelude.{◌≡◌, true, false, List, ℕ, ◌≤◌, ◌<◌, length, get_or}
+use Rattle.std.specs.Prelude.{◌≡◌, true, false, List, ℕ, ◌≤◌, ◌<◌, length, get_or, Option, Some, None}
 use Rattle.octets.specs.Octets.{cut}
 use Rattle.meaning.specs.Torrent.{lengths_agree}
 use Rattle.filetree.specs.Tree.{Element, Listed, files, files_below}
 use Rattle.filetree.specs.Reading.{read_files}
 use Rattle.twins.specs.Twins.{layer_count, length_known, size_noted, RootsStand}
 use Rattle.twins.specs.declared.Noted.{Noted}
-use Rattle.twins.specs.declared.Noted.TheVariants.{Past, Unlike}
 
 -- the files `done` are met: their lengths agree, `layered` layers are theirs, and at each root's place stands a file with the length that is
 -- known of it
@@ -30,7 +29,11 @@ pub record Ahead (t roots : List ℕ) (count plen at levels : ℕ) (room : List 
   pub some : 0 < at
   pub few : before ≤ at
 
+-- the position past a directory, and how many layers the files up to there have
+abbrev pub past : ℕ → ℕ → Option Noted
+past k layered = Some (record { next = k; layered = layered })
+
 -- what is then said of the directory: all of its files are met too, or with them two of one root have different lengths
-abbrev pub Compares : List ℕ → List ℕ → ℕ → ℕ → List Listed → ℕ → List ℕ → Noted → Type 0
-Compares t roots count plen fs end room (Past k layered) = (k ≡ end) × (layered ≤ k) × Known t roots count plen room fs layered
-Compares t roots count plen fs end room Unlike = lengths_agree (read_files t fs) ≡ false
+abbrev pub Compares : List ℕ → List ℕ → ℕ → ℕ → List Listed → ℕ → List ℕ → Option Noted → Type 0
+Compares t roots count plen fs end room (Some w) = (w.next ≡ end) × (w.layered ≤ w.next) × Known t roots count plen room fs w.layered
+Compares t roots count plen fs end room None = lengths_agree (read_files t fs) ≡ false

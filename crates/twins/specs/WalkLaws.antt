@@ -1,6 +1,7 @@
 -- Files met one after the other: one file, or one directory, more keeps what is known; and the whole tree.
 -- Assumes nothing.
-use Rattle.std.specs.Prelude.{◌≡◌, Bool, cond, ◌&&◌, List, [], ◌∷◌, ◌++◌, ℕ, suc, ◌+◌, ◌-◌, ◌≤◌, ◌<◌, length, drop, get_or, set, eqb}
+use Rattle.twins.specs.Walk.{past}
+use Rattle.std.specs.Prelude.{◌≡◌, Bool, cond, ◌&&◌, List, [], ◌∷◌, ◌++◌, ℕ, suc, ◌+◌, ◌-◌, ◌≤◌, ◌<◌, length, drop, get_or, set, eqb, Some, None}
 use Rattle.std.proofs.Math.Path.{refl, sym}
 use Rattle.std.proofs.Common.{ap, subst, ◌∙◌, inl, inr, append-nil, append_assoc, arith, length-set, get_or-set_same, get_or-set_other, eqb-true, eq-eqb, ne_eqb}
 use Rattle.std.proofs.Math.Bool.{true, false}
@@ -13,17 +14,14 @@ use Rattle.tree.proofs.GeometryLaws.{long_full}
 use Rattle.meaning.specs.Torrent.{File, lengths_agree}
 use Rattle.sorting.specs.Sorting.{Stands}
 use Rattle.sorting.specs.SortingLaws.{ascending_one}
-use Rattle.filetree.specs.Token.{ends_here, token_at}
+use Rattle.filetree.specs.Token.{ends_here, token_at, opened_token, closed_token, leaf_token}
 use Rattle.filetree.specs.TokenLaws.{leaf_ends, opened_ends}
 use Rattle.filetree.specs.Tree.{max_elements, Element, Listed, listed_as, down, Files, wrong, files, after, files_from, files_below, files_in, right, listed, roots_of}
 use Rattle.filetree.specs.TreeLaws.{empty_tree, tree_below, no_levels, FilesPassed, passed_none, passed_bad, passed_end, passed_closed, passed_file, passed_wrong, inside_ends, passed_directory}
 use Rattle.filetree.specs.Reading.{read_file, read_files, root_read}
-use Rattle.filetree.specs.declared.token.Token.TheVariants.{Opened, Closed, Leaf, BadToken}
 use Rattle.twins.specs.Twins.{long_roots, once_each, layer_count, compared_of, length_known, differs, size_noted, RootsStand, Rooted, Meets}
 use Rattle.twins.specs.TwinsLaws.{agree_front, empty_short, empty_agrees, empty_known, empty_layers, differs_so, full_agrees, full_known, others_known, full_layers, once_fewer}
 use Rattle.twins.specs.Walk.{Known, Ahead, Compares}
-use Rattle.twins.specs.declared.Noted.TheVariants.{Past}
-use Rattle.twins.specs.declared.Compared.TheVariants.{Agree, Differ}
 
 -- ---- one file more
 
@@ -34,7 +32,7 @@ module _ (t roots : List ℕ) (count plen : ℕ) where
   known_none room h z = record { agree = refl; counted = refl; noted = λ j l. rw (z j l) refl; sized = h }
 
   module _ (rooted : Rooted t roots count) (room : List ℕ) (done : List Listed) (layered : ℕ) (c : Known t roots count plen room done layered)
-      (i a b n r k : ℕ) (path : List Element) (some : 0 < i) (e : token_at t i ≡ Leaf a b n r k) where
+      (i a b n r k : ℕ) (path : List Element) (some : 0 < i) (e : token_at t i ≡ leaf_token a b n r k) where
     abbrev f : Listed
     f = listed_as n r (down path a b)
 
@@ -184,7 +182,7 @@ module _ {t roots : List ℕ} {count plen at levels : ℕ} {room₀ : List ℕ} 
     never : whole ≡ wrong → ⊥
     never e = no_files whole w.inside w.end e w.is
 
-    pub going_bad : token_at t i ≡ BadToken → ⊥
+    pub going_bad : token_at t i ≡ None → ⊥
     going_bad e = never (passed_bad t whole below w.path i g.fs g.passed e)
 
     pub going_end : length t ≤ i → ⊥
@@ -195,13 +193,13 @@ module _ {t roots : List ℕ} {count plen at levels : ℕ} {room₀ : List ℕ} 
     behind fs k p = in_front fs w.inside w.end (files_from (files_below below t) p.steps t k w.path) (sym p.rest ∙ w.is)
 
     module _ (h : i < length t) where
-      pub going_closed : token_at t i ≡ Closed → Compares t roots count plen (w.done ++ w.inside) w.end room (Past (i + 1) layered)
+      pub going_closed : token_at t i ≡ closed_token → Compares t roots count plen (w.done ++ w.inside) w.end room (past (i + 1) layered)
       going_closed e =
           let q = one_list whole g.fs w.inside (i + 1) w.end (passed_closed t whole below w.path i g.fs g.passed h e) w.is in
           let y = g.few in
           (q.1, omega arith, subst (λ (l : List Listed). Known t roots count plen room (w.done ++ l) layered) q.0 g.known)
 
-      module _ {a b n r k : ℕ} (e : token_at t i ≡ Leaf a b n r k) where
+      module _ {a b n r k : ℕ} (e : token_at t i ≡ leaf_token a b n r k) where
         abbrev leaf : Listed
         leaf = listed_as n r (down w.path a b)
 
@@ -238,7 +236,7 @@ module _ {t roots : List ℕ} {count plen at levels : ℕ} {room₀ : List ℕ} 
                 few = one_at_most known n plen layered layered' i k q g.few x;
               }
 
-      module _ {a b : ℕ} (e : token_at t i ≡ Opened a b) where
+      module _ {a b : ℕ} (e : token_at t i ≡ opened_token a b) where
         pub below_is : (gs : List Listed) × (k : ℕ) × (files_below below t (b + 1) (down w.path a b) ≡ files gs k)
         below_is = not_wrong (files_below below t (b + 1) (down w.path a b)) (λ q. never (passed_wrong t whole below w.path i g.fs g.passed h a b e q))
 
@@ -278,7 +276,7 @@ module _ {t roots : List ℕ} {count plen at levels : ℕ} {room₀ : List ℕ} 
             (ap (λ (l : List Listed). w.done ++ l) (rest_in.1 ∙ append_assoc g.fs gs rest_in.0) ∙ sym (append_assoc w.done g.fs (gs ++ rest_in.0)) ∙ sym (append_assoc (w.done ++ g.fs) gs rest_in.0))
             ∙ front_differs t ((w.done ++ g.fs) ++ gs) rest_in.0 q
 
-        module _ (room' : List ℕ) (k layered' : ℕ) (q : Compares t roots count plen ((w.done ++ g.fs) ++ gs) below_is.1 room' (Past k layered')) where
+        module _ (room' : List ℕ) (k layered' : ℕ) (q : Compares t roots count plen ((w.done ++ g.fs) ++ gs) below_is.1 room' (past k layered')) where
           pub inside_behind : (i < k) × (k ≤ length t)
           inside_behind = let x = inside_ends t whole below w.path i g.fs g.passed h a b e gs below_is.1 below_is.2 in rw q.0 x
 
@@ -327,11 +325,11 @@ module _ (t roots : List ℕ) (count plen : ℕ) (rooted : Rooted t roots count)
         few = omega arith;
       }
 
-  pub tree_agrees : (end k layered : ℕ) (room : List ℕ) → Compares t roots count plen (listed (files_in t)) end room (Past k layered) → Agree layered ≡ compared_of plen (read_files t (listed (files_in t)))
+  pub tree_agrees : (end k layered : ℕ) (room : List ℕ) → Compares t roots count plen (listed (files_in t)) end room (past k layered) → Some layered ≡ compared_of plen (read_files t (listed (files_in t)))
   unfolding compared_of
-  tree_agrees end k layered room q = sym (rw q.2.agree (ap Agree (sym q.2.counted)))
+  tree_agrees end k layered room q = sym (rw q.2.agree (ap Some (sym q.2.counted)))
 
-  pub tree_differs : lengths_agree (read_files t (listed (files_in t))) ≡ false → Differ ≡ compared_of plen (read_files t (listed (files_in t)))
+  pub tree_differs : lengths_agree (read_files t (listed (files_in t))) ≡ false → None ≡ compared_of plen (read_files t (listed (files_in t)))
   unfolding compared_of
   tree_differs q = sym (rw q refl)
 

@@ -21,25 +21,11 @@ use filetree::token::{Token, read_token};
 use sorting::halving::search;
 use tree::geometry::has_layer;
 
-// How many layers the files have, one for each root of those longer than the piece length; or two with one root differ in length.
+// The position past a directory, and how many layers the files up to there have.
 #[derive(Clone, Copy)]
-pub enum Compared {
-    Agree { layered: usize },
-    Differ,
-}
-
-// The position past a directory, and how many layers the files up to there have; or two with one root differ in length.
-#[derive(Clone, Copy)]
-pub enum Noted {
-    Past { next: usize, layered: usize },
-    Unlike,
-}
-
-// A note as an index.
-fn place(p: u32) -> usize
-    ensures { result ≡ p }
-{
-    p as usize
+pub struct Noted {
+    pub next: usize,
+    pub layered: usize,
 }
 
 // The length of the file that stands at p of the tree; 0 at 0, where none stands.
@@ -50,16 +36,18 @@ fn size_at(tree: &[u8], p: usize) -> usize
         return 0;
     }
     match read_token(tree, p) {
-        Token::BadToken => 0,
-        Token::Closed => 0,
-        Token::Opened { start: _, end: _ } => 0,
-        Token::Leaf {
-            start: _,
-            end: _,
-            length,
-            root: _,
-            next: _,
-        } => length,
+        None => 0,
+        Some(Token::Closed) => 0,
+        Some(Token::Opened { start: _, end: _ }) => 0,
+        Some(
+            Token::Leaf {
+                start: _,
+                end: _,
+                length,
+                root: _,
+                next: _,
+            },
+        ) => length,
     }
 }
 
@@ -82,7 +70,7 @@ fn meet(
     let past = root + 32;
     let at = search(tree, roots, count, &tree[root..past]);
     if at < count {
-        let p = place(room[at]);
+        let p = room[at] as usize;
         let known = size_at(tree, p);
         room[at] = i as u32;
         return known;
@@ -115,7 +103,7 @@ fn one_more(layered: usize, known: usize, length: usize, plen: usize) -> usize
 }
 
 // The files of a directory of a right tree, from its first entry on, with so many levels left below it: each directory inside takes one, and as
-// the tree is right there is one. The files met before have `before` layers.
+// the tree is right there is one. The files met before have `before` layers. None if two with one root differ in length.
 fn compare_directory(
     tree: &[u8],
     at: usize,
@@ -125,7 +113,7 @@ fn compare_directory(
     room: &mut [u32],
     plen: usize,
     before: usize,
-) -> Noted
+) -> Option<Noted>
     requires { Rooted tree.now roots.now count × (L.length tree.now ≤ largest_torrent) × Ahead tree.now roots.now count plen at levels room.old before }
     ensures { (w : Ahead tree.now roots.now count plen at levels room.old before) → Compares tree.now roots.now count plen (w.done ++ w.inside) w.end room.new result }
 {
@@ -133,15 +121,12 @@ fn compare_directory(
     let mut i = at;
     let mut layered = before;
     while i < tree.len() {
-        match read_token(tree, i) {
-            Token::BadToken => {
-                return Noted::Unlike; // never: the tree is right
-            }
+        match read_token(tree, i)? {
             Token::Closed => {
-                return Noted::Past {
+                return Some(Noted {
                     next: i + 1,
                     layered,
-                };
+                });
             }
             Token::Leaf {
                 start: _,
@@ -152,35 +137,28 @@ fn compare_directory(
             } => {
                 let known = meet(tree, roots, count, room, i, length, root);
                 if differs(known, length) {
-                    return Noted::Unlike;
+                    return None;
                 }
                 layered = one_more(layered, known, length, plen);
                 i = next;
             }
-            Token::Opened { start: _, end } => match compare_directory(
-                tree,
-                end + 1,
-                below,
-                roots,
-                count,
-                room,
-                plen,
-                layered,
-            ) {
-                Noted::Past {
-                    next,
-                    layered: inside,
-                } => {
-                    layered = inside;
-                    i = next;
-                }
-                Noted::Unlike => {
-                    return Noted::Unlike;
-                }
-            },
+            Token::Opened { start: _, end } => {
+                let inside = compare_directory(
+                    tree,
+                    end + 1,
+                    below,
+                    roots,
+                    count,
+                    room,
+                    plen,
+                    layered,
+                )?;
+                layered = inside.layered;
+                i = inside.next;
+            }
         }
     }
-    Noted::Unlike // never: the tree is right
+    None // never: the tree is right
 }
 
 // Nothing is noted in the first `count` places.
@@ -188,21 +166,22 @@ fn forget(room: &mut [u32], count: usize)
     requires { count ≤ L.length room.old }
     ensures { room.new ≡ replicate count 0 ++ drop count room.old }
 {
-    let mut i = 0;
-    while i < count {
-        room[i] = 0;
-        i += 1;
-    }
+    room[..count].fill(0);
 }
 
-// The files of the right `tree` compared, with the positions of their roots, each root once; `room` is work space.
-pub fn compare(tree: &[u8], roots: &[u32], count: usize, room: &mut [u32], plen: usize) -> Compared
+// How many layers the files of the right `tree` have, one for each root of those longer than the piece length; none if two with one root
+// differ in length. `roots` has the positions of their roots, each root once; `room` is work space.
+pub fn compare(
+    tree: &[u8],
+    roots: &[u32],
+    count: usize,
+    room: &mut [u32],
+    plen: usize,
+) -> Option<usize>
     requires { Rooted tree.now roots.now count × (right (files_in tree.now) ≡ true) × (count ≤ L.length room.old) × (L.length tree.now ≤ largest_torrent) }
     ensures { result ≡ compared_of plen (read_files tree.now (listed (files_in tree.now))) }
 {
     forget(room, count);
-    match compare_directory(tree, 1, ELEMENTS, roots, count, room, plen, 0) {
-        Noted::Past { next: _, layered } => Compared::Agree { layered },
-        Noted::Unlike => Compared::Differ,
-    }
+    let all = compare_directory(tree, 1, ELEMENTS, roots, count, room, plen, 0)?;
+    Some(all.layered)
 }

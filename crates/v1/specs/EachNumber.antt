@@ -22,13 +22,10 @@ use Rattle.calls.specs.Calls.{OfTorrent}
 use Rattle.calls.specs.CallsLaws.{checked_ranged, of_torrent}
 use Rattle.calls.specs.EachNumber.{read_exactly}
 use Rattle.v1.specs.Place.{file_size}
-use Rattle.v1.specs.V1.{no_hybrid, hybrid_of, no_piece, v1_piece_of, no_part, v1_pieces_of}
+use Rattle.v1.specs.V1.{HybridRead, V1Piece, V1Part, no_hybrid, hybrid_of, no_piece, v1_piece_of, no_part, v1_pieces_of}
 use Rattle.v1.specs.HalfLaws.{same_size}
 use Rattle.v1.specs.KnownLaws.{known, encodes_value}
 use Rattle.v1.specs.ReadLaws.{hybrid_refused, piece_refused, part_refused}
-use Rattle.v1.specs.declared.read.HybridRead.{HybridRead}
-use Rattle.v1.specs.declared.read.V1Piece.{V1Piece}
-use Rattle.v1.specs.declared.read.V1Part.{V1Part}
 
 -- ---- which answers there are
 

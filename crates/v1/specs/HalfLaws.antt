@@ -1,6 +1,6 @@
 -- A v1 half that fits: its entries by its keys, its files, and where `pieces` stands.
 -- Assumes nothing.
-use Rattle.std.specs.Prelude.{◌≡◌, refl, Bool, true, false, cond, not, ◌&&◌, List, [], ◌∷◌, ℕ, zero, suc, ◌+◌, ◌-◌, ◌*◌, ◌≤◌, length, drop, eqb}
+use Rattle.std.specs.Prelude.{◌≡◌, refl, Bool, true, false, cond, not, ◌&&◌, List, [], ◌∷◌, ℕ, zero, suc, ◌+◌, ◌-◌, ◌*◌, ◌≤◌, length, drop, eqb, Some, Option, None}
 use Rattle.std.proofs.Common.{sym, ap, ◌∙◌, arith, eqb-true}
 use Rattle.std.proofs.lemmas.Bool.{false≢true}
 use Rattle.std.proofs.Math.Bool.{and-eq-true_iff}
@@ -11,9 +11,7 @@ use Rattle.bencode.specs.Grammar.{Value, integer, string, list, dictionary, Item
 use Rattle.bencode.specs.Scalar.{read_string}
 use Rattle.bencode.specs.EndsLaws.{string_ends}
 use Rattle.bencode.specs.Parts.{Lookup, absent, present, lookup, find_key}
-use Rattle.bencode.specs.declared.scalar.ByteString.{ByteString}
-use Rattle.bencode.specs.declared.scalar.ByteString.TheVariants.{Content, NoString}
-use Rattle.bencode.specs.declared.parts.Found.{Found}
+use Rattle.bencode.specs.declared.part.Part.{Part}
 use Rattle.meaning.specs.Keys.{key_length}
 use Rattle.meaning.specs.Nth.{Nth}
 use Rattle.meaning.specs.Torrent.{File, is_natural, number_of, info_of, plen_of, files_of}
@@ -22,27 +20,26 @@ use Rattle.halves.specs.V1Half.{V1Entry, is_there, has_string, bytes_of, string_
 use Rattle.halves.specs.Stream.{file_start}
 use Rattle.hybrid.specs.Entry.{StandsAt, natural_in}
 use Rattle.hybrid.specs.EntryLaws.{FoundHere, nothing, value, found_here}
-use Rattle.hybrid.specs.declared.Natural.TheVariants.{Is}
 use Rattle.layers.specs.Layers.{string_in}
 use Rattle.v1.specs.Place.{file_size}
 use Rattle.v1.specs.V1.{pieces_in, pieces_from}
 
 -- ---- `pieces` of the dictionary at `at`
 
-pub pieces_found : (s : List ℕ) (at : ℕ) (w : Found) → find_key key_pieces at (drop at s) ≡ w → string_in s w ≡ pieces_from s at
+pub pieces_found : (s : List ℕ) (at : ℕ) (w : Option Part) → find_key key_pieces at (drop at s) ≡ w → string_in s w ≡ pieces_from s at
 unfolding pieces_from
 pieces_found s at w e = sym (ap (string_in s) e)
 
 -- what is read of the value of a key: a string's content within the bytes, and for all else nothing
-abbrev pub PiecesAre : List ℕ → Lookup → ByteString → Type 0
-PiecesAre s x NoString = has_string x ≡ false
-PiecesAre s x (Content a b) = (has_string x ≡ true) × (cut s a (b - a) ≡ bytes_of x) × (a ≤ b) × (b ≤ length s)
+abbrev pub PiecesAre : List ℕ → Lookup → Option Part → Type 0
+PiecesAre s x None = has_string x ≡ false
+PiecesAre s x (Some w) = (has_string x ≡ true) × (cut s w.start (w.end - w.start) ≡ bytes_of x) × (w.start ≤ w.end) × (w.end ≤ length s)
 
-value_read : (s : List ℕ) (a : ℕ) (x : Value) → StandsAt s a x → (r : ByteString) → read_string a (drop a s) ≡ r → PiecesAre s (present x) r
-value_read s a x w NoString e = other_at s a x w e
-value_read s a x w (Content u v) e = let p = string_ends a s u v e in let q = string_at s a x w u v e in (q.0, q.1, p.1, p.2)
+value_read : (s : List ℕ) (a : ℕ) (x : Value) → StandsAt s a x → (r : Option Part) → read_string a (drop a s) ≡ r → PiecesAre s (present x) r
+value_read s a x w None e = other_at s a x w e
+value_read s a x w (Some r) e = let p = string_ends a s r.start r.end e in let q = string_at s a x w r.start r.end e in (q.0, q.1, p.1, p.2)
 
-found_read : (s : List ℕ) (f : Found) (x : Lookup) → FoundHere s f x → PiecesAre s x (string_in s f)
+found_read : (s : List ℕ) (f : Option Part) (x : Lookup) → FoundHere s f x → PiecesAre s x (string_in s f)
 found_read s f x nothing = refl
 found_read s f x (value a b v w) = value_read s a v w (read_string a (drop a s)) refl
 
@@ -125,7 +122,7 @@ spot_within (e ∷ es) (suc n) = by e.padding (spot_within es (suc n)) (spot_wit
 
 -- ---- the entries by the keys
 
-pub natural_some : (x : Lookup) → is_natural x ≡ true → natural_in x ≡ Is (number_of x)
+pub natural_some : (x : Lookup) → is_natural x ≡ true → natural_in x ≡ Some (number_of x)
 natural_some absent e = absurd (false≢true e)
 natural_some (present (integer true n)) e = absurd (false≢true e)
 natural_some (present (integer false n)) e = refl
@@ -134,7 +131,7 @@ natural_some (present (list vs)) e = absurd (false≢true e)
 natural_some (present (dictionary es)) e = absurd (false≢true e)
 
 pub half_single : (info : Entries) → lookup key_files info ≡ absent → half_fits info ≡ true
-    → (natural_in (lookup key_length info) ≡ Is (number_of (lookup key_length info))) × (v1_entries info ≡ one_file (number_of (lookup key_length info)) (bytes_of (lookup key_name info)) ∷ [])
+    → (natural_in (lookup key_length info) ≡ Some (number_of (lookup key_length info))) × (v1_entries info ≡ one_file (number_of (lookup key_length info)) (bytes_of (lookup key_name info)) ∷ [])
 unfolding half_fits v1_entries
 half_single info q h =
     let p : is_natural (lookup key_length info) && has_string (lookup key_name info) ≡ true = rw q at h in

@@ -1,6 +1,7 @@
 -- What is known of a torrent that gets 0, for the code that goes on with its v1 half.
 -- Assumes nothing.
-use Rattle.std.specs.Prelude.{◌≡◌, Bool, true, false, cond, List, ℕ, ◌+◌, ◌-◌, ◌^◌, ◌≤◌, ◌<◌, length, drop, eqb}
+use Rattle.bencode.specs.Scalar.{part}
+use Rattle.std.specs.Prelude.{◌≡◌, Bool, true, false, cond, List, ℕ, ◌+◌, ◌-◌, ◌^◌, ◌≤◌, ◌<◌, length, drop, eqb, Option, None}
 use Rattle.std.proofs.Math.Path.{refl}
 use Rattle.std.proofs.Common.{sym, ap, ◌∙◌, inl, arith}
 use Rattle.std.proofs.lemmas.Bool.{false≢true, eqb-false}
@@ -13,8 +14,7 @@ use Rattle.bencode.specs.DepthLaws.{more_levels}
 use Rattle.bencode.specs.StrictLaws.{taken}
 use Rattle.bencode.specs.Parts.{lookup}
 use Rattle.bencode.specs.PartsLaws.{part_front}
-use Rattle.bencode.specs.declared.scalar.ByteString.{ByteString}
-use Rattle.bencode.specs.declared.scalar.ByteString.TheVariants.{Content, NoString}
+use Rattle.bencode.specs.declared.part.Part.{Part}
 use Rattle.meaning.specs.Torrent.{info_of, plen_of, files_of}
 use Rattle.halves.specs.V1Keys.{key_pieces}
 use Rattle.halves.specs.V1Half.{has_string, v1_entries, total, is_hybrid, halves_fit}
@@ -22,15 +22,13 @@ use Rattle.halves.specs.Decoded.{decoded, torrent_in}
 use Rattle.hybrid.specs.Entry.{StandsAt}
 use Rattle.hybrid.specs.Tally.{most_bytes}
 use Rattle.hybrid.specs.HalfLaws.{pieces_few}
-use Rattle.metainfo.specs.Metainfo.{bytes_in}
-use Rattle.metainfo.specs.declared.Keys.{Keys}
-use Rattle.torrent.specs.Torrent.{unread, v2_checked_of, checked_of, read_of}
+use Rattle.metainfo.specs.Metainfo.{Keys, bytes_in}
+use Rattle.torrent.specs.Torrent.{Checked, unread, v2_checked_of, checked_of, read_of}
 use Rattle.torrent.specs.CheckLaws.{checked_whole}
 use Rattle.torrent.specs.KeyStringLaws.{string_there}
 use Rattle.torrent.specs.HalvesFitLaws.{plen_range}
 use Rattle.torrent.specs.NumberMeans.{value_only, read_number_lem}
 use Rattle.torrent.specs.ReadMeans.{same_keys, at_values, torrent_is, info_valid}
-use Rattle.torrent.specs.declared.check.Checked.{Checked}
 use Rattle.v1.specs.V1.{pieces_in, pieces_from, file_of}
 use Rattle.v1.specs.Asked.{Fits, Stands}
 use Rattle.v1.specs.HalfLaws.{PiecesAre, pieces_are, Halves, halves_are, same_count, spot_within}
@@ -99,7 +97,7 @@ known_so s c e z = rw e (known s (ap (λ (x : Checked). x.keys.number) (sym e) �
 
 module _ (s : List ℕ) (c : Checked) (k : Known s c) where
   -- no string: no hybrid
-  pub no_pieces : (w : ByteString) → w ≡ pieces_from s c.keys.info.start → w ≡ NoString → is_hybrid (torrent_in s) ≡ false
+  pub no_pieces : (w : Option Part) → w ≡ pieces_from s c.keys.info.start → w ≡ None → is_hybrid (torrent_in s) ≡ false
   no_pieces w e q = by (is_hybrid (torrent_in s)) refl
     where
       none_there : has_string (lookup key_pieces (info_of (torrent_in s))) ≡ false
@@ -109,8 +107,8 @@ module _ (s : List ℕ) (c : Checked) (k : Known s c) where
       by true h = absurd (false≢true (sym none_there ∙ (k.halves h).a_string))
       by false h = refl
 
-  module _ (w : ByteString) (a b : ℕ) (e : w ≡ pieces_from s c.keys.info.start) (q : w ≡ Content a b) where
-    are : PiecesAre s (lookup key_pieces (info_of (torrent_in s))) (Content a b)
+  module _ (w : Option Part) (a b : ℕ) (e : w ≡ pieces_from s c.keys.info.start) (q : w ≡ part a b) where
+    are : PiecesAre s (lookup key_pieces (info_of (torrent_in s))) (part a b)
     are = rw (sym e ∙ q) at (pieces_are s c.keys.info.start (info_of (torrent_in s)) k.info_stands)
 
     pub some_pieces : is_hybrid (torrent_in s) ≡ true

@@ -1,21 +1,19 @@
 -- The walk to file n, entry by entry.
 -- Assumes nothing.
-use Rattle.std.specs.Prelude.{◌≡◌, refl, Bool, true, false, cond, ℕ, zero, suc, ◌+◌, ◌-◌, ◌≤◌, length}
+use Rattle.std.specs.Prelude.{◌≡◌, refl, Bool, true, false, cond, ℕ, zero, suc, ◌+◌, ◌-◌, ◌≤◌, length, List, ◌∷◌}
 use Rattle.std.proofs.Common.{sym, ◌∙◌, arith, eqb-true}
 use Rattle.std.proofs.Math.Path.{ap}
 use Rattle.std.proofs.lemmas.Bool.{false≢true}
-use mathlib.Core.List.{List, ◌∷◌}
 use Rattle.bencode.specs.Grammar.{Value, Items, no_items, item}
 use Rattle.halves.specs.V1Half.{V1Entry, entry_of, entries_in, total}
 use Rattle.halves.specs.Stream.{file_start}
-use Rattle.hybrid.specs.Entry.{Reads}
+use Rattle.hybrid.specs.Entry.{Reads, malformed, ended, entry_read}
 use Rattle.hybrid.specs.Ahead.{Ahead}
 use Rattle.hybrid.specs.AheadLaws.{ahead_ended, ahead_bad, ahead_inside, ahead_entry}
 use Rattle.hybrid.specs.Tally.{most_bytes}
 use Rattle.hybrid.specs.TallyLaws.{list_items, list_valid}
 use Rattle.v1.specs.Place.{file_size, spot_of, Fitting, is_sought, left_behind, Walking}
 use Rattle.v1.specs.declared.place.Spot.{Spot}
-use Rattle.hybrid.specs.declared.V1Token.TheVariants.{Entry, Ended, BadEntry}
 
 -- ---- one entry
 
@@ -69,11 +67,11 @@ module _ (v : List ℕ) (n i left start : ℕ) (vs : Items) (w : Walking v n i l
   pub walk_inside : length v ≤ i → ⊥
   walk_inside h = ahead_inside v i w.us w.ahead h
 
-  pub walk_bad : Reads v i BadEntry → ⊥
+  pub walk_bad : Reads v i malformed → ⊥
   walk_bad r = ahead_bad v i w.us w.ahead r
 
   -- no file n: the end of all entries
-  pub walk_ended : Reads v i Ended → ◌≡◌ {A = Spot} (record { start = start; length = 0 }) (spot_of (entries_in vs) n)
+  pub walk_ended : Reads v i ended → ◌≡◌ {A = Spot} (record { start = start; length = 0 }) (spot_of (entries_in vs) n)
   walk_ended r =
       let e = ahead_ended v i w.us w.ahead r in
       let z : (file_start (entries_in w.us) left ≡ 0) × (file_size (entries_in w.us) left ≡ 0) = rw e none in
@@ -82,7 +80,7 @@ module _ (v : List ℕ) (n i left start : ℕ) (vs : Items) (w : Walking v n i l
       none : (file_start (entries_in no_items) left ≡ 0) × (file_size (entries_in no_items) left ≡ 0)
       none = unfold entries_in file_start file_size in (refl, refl)
 
-  module _ (t : Bool) (k p j : ℕ) (r : Reads v i (Entry t k p j)) where
+  module _ (t : Bool) (k p j : ℕ) (r : Reads v i (entry_read t k p j)) where
     next : (x : Value) × (ws : Items) × (w.us ≡ item x ws) × (t ≡ (entry_of x).padding) × (k ≡ (entry_of x).size) × Ahead v j ws
     next = let m = ahead_entry v i t k p j r w.us w.ahead in (m.0, m.1, m.2, m.3, m.4, m.6)
 

@@ -1,15 +1,15 @@
 -- What is answered, from what was checked and found.
 -- Assumes nothing.
-use Rattle.std.specs.Prelude.{◌≡◌, true, length, drop}
+use Rattle.hybrid.specs.Tally.{sums}
+use Rattle.std.specs.Prelude.{◌≡◌, true, length, drop, List, [], ◌∷◌, ℕ, zero, suc, ◌+◌, ◌-◌, ◌*◌, ◌/◌, ◌≤◌, ◌<◌, None, Option, Some, Result, Err}
+use Rattle.bencode.specs.Scalar.{part}
 use Rattle.std.proofs.Math.Path.{refl, sym, ap}
-use Rattle.std.proofs.Common.{◌∙◌, length-take, length-drop}
-use mathlib.Core.List.{List, [], ◌∷◌}
-use Prim.Native.Nat.{ℕ, zero, suc, ◌+◌, ◌-◌, ◌*◌, ◌/◌, ◌≤◌, ◌<◌}
-use native.Mathlib.Omega.{arith}
+use Rattle.std.proofs.Common.{◌∙◌, length-take, length-drop, arith, eq-eqb, ne_eqb, lt-ltb, le-ltb}
 use Rattle.std.proofs.Math.Nat.{div-add-mod', add-mul}
 use Rattle.std.proofs.Math.ListN.{take}
-use borrow.Author.Tests.{eq-eqb, ne_eqb, lt-ltb, le-ltb}
 use Rattle.limits.specs.Limits.{max_levels}
+use Rattle.numbers.specs.Refusals.{number_of as refusal_number, refused_is_some}
+use Rattle.numbers.specs.declared.Refused.{Refused}
 use Rattle.numbers.specs.Numbers.{rule_broken, no_such_part}
 use Rattle.octets.specs.Octets.{cut}
 use Rattle.octets.specs.OctetsLaws.{cut_cut}
@@ -20,10 +20,7 @@ use Rattle.bencode.specs.Grammar.{list, dictionary, Items, Entries, none, encode
 use Rattle.bencode.specs.DepthLaws.{more_levels}
 use Rattle.bencode.specs.Parts.{lookup, find_key, FoundIs, Lookup, absent, present}
 use Rattle.bencode.specs.PartsLaws.{find_is, find_ends, lookup_valid}
-use Rattle.bencode.specs.declared.scalar.ByteString.{ByteString}
-use Rattle.bencode.specs.declared.scalar.ByteString.TheVariants.{Content, NoString}
-use Rattle.bencode.specs.declared.parts.Found.{Found}
-use Rattle.bencode.specs.declared.parts.Found.TheVariants.{Part, Missing}
+use Rattle.bencode.specs.declared.part.Part.{Part}
 use Rattle.meaning.specs.Keys.{key_length}
 use Rattle.meaning.specs.Torrent.{info_of, number_of}
 use Rattle.halves.specs.V1Keys.{key_files, key_name}
@@ -34,21 +31,15 @@ use Rattle.hybrid.specs.Entry.{StandsAt, natural_in}
 use Rattle.hybrid.specs.EntryLaws.{found_here, found_missing}
 use Rattle.hybrid.specs.Tally.{tallied_of}
 use Rattle.hybrid.specs.TallyLaws.{tally_sums, tally_amiss}
-use Rattle.hybrid.specs.declared.Natural.{Natural}
-use Rattle.hybrid.specs.declared.Natural.TheVariants.{Is, NoNatural}
-use Rattle.hybrid.specs.declared.Tallied.TheVariants.{Sums, Amiss}
 use Rattle.metainfo.specs.Metainfo.{bytes_in}
-use Rattle.torrent.specs.Torrent.{checked_of}
-use Rattle.torrent.specs.declared.check.Checked.{Checked}
+use Rattle.torrent.specs.Torrent.{Checked, unread, checked_of}
 use Rattle.v1.specs.Place.{file_size, spot_of, Fitting}
-use Rattle.v1.specs.V1.{no_hybrid, hybrid_of, file_of, pieces_in, no_piece, piece_of, v1_piece_of, pieces_from, no_part, part_of, v1_pieces_of}
-use Rattle.v1.specs.Asked.{Fits, Stands}
+use Rattle.v1.specs.V1.{HybridRead, V1Piece, V1Part, no_hybrid, hybrid_of, file_of, pieces_in, no_piece, piece_of, v1_piece_of, pieces_from, no_part, part_of, v1_pieces_of}
+use Rattle.v1.specs.Asked.{Fits, Stands, Answers}
+use Rattle.v1.specs.declared.read.Sought.{Sought}
 use Rattle.v1.specs.HalfLaws.{half_single, half_several}
 use Rattle.v1.specs.KnownLaws.{Known, known_so, no_pieces, some_pieces, pieces_stand}
 use Rattle.v1.specs.declared.place.Spot.{Spot}
-use Rattle.v1.specs.declared.read.HybridRead.{HybridRead}
-use Rattle.v1.specs.declared.read.V1Piece.{V1Piece}
-use Rattle.v1.specs.declared.read.V1Part.{V1Part}
 use Rattle.v1.specs.declared.read.V1File.{V1File}
 
 -- ---- file n of the list that v is
@@ -57,25 +48,25 @@ abbrev pub among_of : Items → ℕ → V1File
 among_of vs n = record { start = file_start (entries_in vs) n; length = file_size (entries_in vs) n; total = total (entries_in vs) }
 
 module _ (v : List ℕ) (plen n : ℕ) (vs : Items) (f : Fitting v vs) (b : on_boundary plen 0 (entries_in vs) ≡ true) where
-  pub among_never : Amiss ≡ tallied_of plen vs → ⊥
+  pub among_never : None ≡ tallied_of plen vs → ⊥
   among_never e = let x = tally_amiss plen 0 0 vs (omega arith) (sym e) f.fit b in let y = f.few in omega arith
 
-  pub among_is : (g t : ℕ) → Sums g t ≡ tallied_of plen vs → (p : Spot) → p ≡ spot_of (entries_in vs) n → ◌≡◌ {A = V1File} (record { start = p.start; length = p.length; total = t }) (among_of vs n)
+  pub among_is : (g t : ℕ) → sums g t ≡ tallied_of plen vs → (p : Spot) → p ≡ spot_of (entries_in vs) n → ◌≡◌ {A = V1File} (record { start = p.start; length = p.length; total = t }) (among_of vs n)
   among_is g t e p ep =
       let m : t ≡ total (entries_in vs) = omega (arith, (tally_sums plen 0 0 vs g t (omega arith) (sym e)).bytes) in
       rw (ep, m) refl
 
 -- ---- file n of a v1 half
 
-module _ (s : List ℕ) (at : ℕ) (w : Found) (ew : w ≡ find_key key_files at (drop at s)) (plen n : ℕ) (info : Entries) (st : StandsAt s at (dictionary info)) (f : Fits plen info n) where
-  module _ (q : w ≡ Missing) (x : Natural) (ex : x ≡ natural_in (lookup key_length info)) where
-    single : (natural_in (lookup key_length info) ≡ Is (number_of (lookup key_length info))) × (v1_entries info ≡ one_file (number_of (lookup key_length info)) (bytes_of (lookup key_name info)) ∷ [])
+module _ (s : List ℕ) (at : ℕ) (w : Option Part) (ew : w ≡ find_key key_files at (drop at s)) (plen n : ℕ) (info : Entries) (st : StandsAt s at (dictionary info)) (f : Fits plen info n) where
+  module _ (q : w ≡ None) (x : Option ℕ) (ex : x ≡ natural_in (lookup key_length info)) where
+    single : (natural_in (lookup key_length info) ≡ Some (number_of (lookup key_length info))) × (v1_entries info ≡ one_file (number_of (lookup key_length info)) (bytes_of (lookup key_name info)) ∷ [])
     single = half_single info (found_missing s _ _ (found_here s key_files at info st) (sym ew ∙ q)) f.fits
 
-    pub single_never : x ≡ NoNatural → ⊥
+    pub single_never : x ≡ None → ⊥
     single_never r = let p = single.0 in let z : ◌≡◌ {A = ℕ} 0 1 = cc in omega arith
 
-    pub single_is : (m : ℕ) → x ≡ Is m → ◌≡◌ {A = V1File} (record { start = 0; length = m; total = m }) (file_of info n)
+    pub single_is : (m : ℕ) → x ≡ Some m → ◌≡◌ {A = V1File} (record { start = 0; length = m; total = m }) (file_of info n)
     single_is m r =
         let p = single.0 in
         let e : number_of (lookup key_length info) ≡ m = cc in
@@ -86,12 +77,12 @@ module _ (s : List ℕ) (at : ℕ) (w : Found) (ew : w ≡ find_key key_files at
         by zero h = unfold file_start file_size total in (let z : m + 0 ≡ m = omega arith in rw z refl)
         by (suc n) h = let l : suc n < 1 = unfold files_among in h in absurd (omega arith)
 
-  module _ (a b : ℕ) (q : w ≡ Part a b) where
+  module _ (a b : ℕ) (q : w ≡ part a b) where
     -- the value of `files`
     listed : (vs : Items) × (lookup key_files info ≡ present (list vs)) × Fitting (take (b - a) (drop a s)) vs × (v1_entries info ≡ entries_in vs)
     listed = by (lookup key_files info) refl (rw (sym ew ∙ q) at (find_is key_files s at info st.behind st.bytes st.valid))
       where
-        by : (x : Lookup) → lookup key_files info ≡ x → FoundIs s (Part a b) x → (vs : Items) × (lookup key_files info ≡ present (list vs)) × Fitting (take (b - a) (drop a s)) vs × (v1_entries info ≡ entries_in vs)
+        by : (x : Lookup) → lookup key_files info ≡ x → FoundIs s (part a b) x → (vs : Items) × (lookup key_files info ≡ present (list vs)) × Fitting (take (b - a) (drop a s)) vs × (v1_entries info ≡ entries_in vs)
         by absent e i = absurd i
         by (present v) e i =
             let deep : Valid v (max_levels - 1) = unfold Valid in lookup_valid key_files info none (max_levels - 1) v st.valid e in
@@ -103,7 +94,7 @@ module _ (s : List ℕ) (at : ℕ) (w : Found) (ew : w ≡ find_key key_files at
     pub several_is : (r : V1File) → ((vs : Items) → Fitting (take (b - a) (drop a s)) vs → on_boundary plen 0 (entries_in vs) ≡ true → r ≡ among_of vs n) → r ≡ file_of info n
     several_is r g = g listed.0 listed.2 (rw (sym listed.3) f.boundary) ∙ rw listed.3 refl
 
-pub files_part : (s : List ℕ) (at : ℕ) (w : Found) → w ≡ find_key key_files at (drop at s) → (a b : ℕ) → w ≡ Part a b → (a ≤ b) × (b ≤ length s)
+pub files_part : (s : List ℕ) (at : ℕ) (w : Option Part) → w ≡ find_key key_files at (drop at s) → (a b : ℕ) → w ≡ part a b → (a ≤ b) × (b ≤ length s)
 files_part s at w e a b q = let p = find_ends key_files at s a b (sym e ∙ q) in let x = p.1 in (omega arith, p.2)
 
 -- it is no longer than the torrent
@@ -182,8 +173,8 @@ module _ (s : List ℕ) (c : Checked) (e : c ≡ checked_of s) where
     unfolding v1_pieces_of
     part_no_file n h = rw (sym e) (simp (eq-eqb c.keys.number 0 z, le-ltb n c.files h))
 
-    module _ (w : ByteString) (ew : w ≡ pieces_from s c.keys.info.start) where
-      module _ (q : w ≡ NoString) where
+    module _ (w : Option Part) (ew : w ≡ pieces_from s c.keys.info.start) where
+      module _ (q : w ≡ None) where
         pub hybrid_not : no_hybrid 0 ≡ hybrid_of s
         unfolding hybrid_of
         hybrid_not = rw (sym e) (rw (eq-eqb c.keys.number 0 z, no_pieces s c k w ew q) refl)
@@ -196,7 +187,7 @@ module _ (s : List ℕ) (c : Checked) (e : c ≡ checked_of s) where
         unfolding v1_pieces_of
         part_no_hybrid n h = rw (sym e) (rw (eq-eqb c.keys.number 0 z, lt-ltb n c.files h, no_pieces s c k w ew q) refl)
 
-      module _ (a b : ℕ) (q : w ≡ Content a b) where
+      module _ (a b : ℕ) (q : w ≡ part a b) where
         pub hybrid_is : (h : List ℕ) → h ≡ sha1 (bytes_in s c.keys.info) → ◌≡◌ {A = HybridRead} (record { number = 0; hybrid = 1; hash = h }) (hybrid_of s)
         unfolding hybrid_of
         hybrid_is h eh = rw (sym e) (rw (eq-eqb c.keys.number 0 z, some_pieces s c k w a b ew q, eh) refl)
@@ -216,3 +207,7 @@ module _ (s : List ℕ) (c : Checked) (e : c ≡ checked_of s) where
           where
             answered : part_of a c.keys.plen f ≡ v1_pieces_of s n
             answered = unfold v1_pieces_of in rw (sym e) (rw (eq-eqb c.keys.number 0 z, lt-ltb n c.files h, some_pieces s c k w a b ew q, ef, k.plen_is, sym ew ∙ q) refl)
+
+-- a torrent that is refused has no file
+pub seek_refused : (s : List ℕ) (n : ℕ) (why y : Refused) (r : Result Sought Refused) → r ≡ Err y → y ≡ why → unread (refusal_number why) ≡ checked_of s → Answers s n r
+seek_refused s n why y r er ey e = rw (er, ey) (λ i. piece_refused s (unread (refusal_number why)) e n i (refused_is_some why), part_refused s (unread (refusal_number why)) e n (refused_is_some why))

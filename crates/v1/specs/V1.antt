@@ -1,15 +1,16 @@
 -- 02, request 12: what is answered of the v1 half of a torrent s, by the value that it encodes: whether it is hybrid, its v1 info hash, and
 -- of each file the v1 hashes of its pieces.
 -- Assumes nothing.
-use Rattle.std.specs.Prelude.{cond, List, ℕ, ◌+◌, ◌-◌, ◌*◌, ◌/◌, drop, eqb, ltb}
+use Rattle.std.specs.Prelude.{cond, List, ℕ, ◌+◌, ◌-◌, ◌*◌, ◌/◌, drop, eqb, ltb, Option, Some, None, Result, Ok, Err}
+use Rattle.numbers.specs.Refusals.{number_of}
+use Rattle.numbers.specs.declared.Refused.{Refused}
 use Rattle.numbers.specs.Numbers.{rule_broken, no_such_part}
 use Rattle.sha_1.specs.Sha1.{sha1}
 use Rattle.sha_1.specs.Answer.{zero_sha1}
 use Rattle.tree.specs.Geometry.{piece_count}
 use Rattle.bencode.specs.Grammar.{Entries}
 use Rattle.bencode.specs.Parts.{lookup, find_key}
-use Rattle.bencode.specs.declared.scalar.ByteString.{ByteString}
-use Rattle.bencode.specs.declared.scalar.ByteString.TheVariants.{Content, NoString}
+use Rattle.bencode.specs.declared.part.Part.{Part}
 use Rattle.meaning.specs.Torrent.{info_of, plen_of}
 use Rattle.halves.specs.V1Keys.{key_pieces}
 use Rattle.halves.specs.V1Half.{bytes_of, v1_entries, total, is_hybrid}
@@ -17,18 +18,42 @@ use Rattle.halves.specs.Stream.{file_start, zeros_behind, v1_hash_at}
 use Rattle.halves.specs.Decoded.{torrent_in}
 use Rattle.metainfo.specs.Metainfo.{bytes_in}
 use Rattle.layers.specs.Layers.{string_in}
-use Rattle.torrent.specs.Torrent.{checked_of}
-use Rattle.torrent.specs.declared.check.Checked.{Checked}
+use Rattle.torrent.specs.Torrent.{Checked, checked_of}
 use Rattle.v1.specs.Place.{file_size}
-use Rattle.v1.specs.declared.read.HybridRead.{HybridRead}
-use Rattle.v1.specs.declared.read.V1Piece.{V1Piece}
-use Rattle.v1.specs.declared.read.V1Part.{V1Part}
+use Rattle.v1.specs.declared.read.V1Piece.{V1Piece as PieceFound}
+use Rattle.v1.specs.declared.read.V1Part.{V1Part as PartFound}
 use Rattle.v1.specs.declared.read.V1File.{V1File}
+
+-- ---- what is answered: 0 and what was found, or a number beside zeros
+
+-- whether the torrent is hybrid, 1 or 0, and its v1 info hash; zeros where it is none
+pub record HybridRead : Type 0 where
+  pub number : ℕ
+  pub hybrid : ℕ
+  pub hash : List ℕ
+
+-- the v1 hash of a piece, and how many zeros behind the piece it covers
+pub record V1Piece : Type 0 where
+  pub number : ℕ
+  pub hash : List ℕ
+  pub zeros : ℕ
+
+-- the part of the torrent that the v1 hashes of a file's pieces are, and how many zeros the last of them covers
+pub record V1Part : Type 0 where
+  pub number : ℕ
+  pub start : ℕ
+  pub size : ℕ
+  pub zeros : ℕ
 
 -- ---- hybrid or not: 19 to 28, 31; or 0
 
 abbrev pub no_hybrid : ℕ → HybridRead
 no_hybrid n = record { number = n; hybrid = 0; hash = zero_sha1 }
+
+abbrev pub as_hybrid : Result (Option (List ℕ)) Refused → HybridRead
+as_hybrid (Ok None) = no_hybrid 0
+as_hybrid (Ok (Some h)) = record { number = 0; hybrid = 1; hash = h }
+as_hybrid (Err why) = no_hybrid (number_of why)
 
 -- the v1 info hash is that of the value of `info` as it stands
 abbrev pub hybrid_in : List ℕ → Checked → HybridRead
@@ -58,6 +83,10 @@ zeros_at plen f i = zeros_behind plen f.total (f.start + i * plen) (f.length - i
 abbrev pub no_piece : ℕ → V1Piece
 no_piece n = record { number = n; hash = zero_sha1; zeros = 0 }
 
+abbrev pub as_piece : Result PieceFound Refused → V1Piece
+as_piece (Ok p) = record { number = 0; hash = p.hash; zeros = p.zeros }
+as_piece (Err why) = no_piece (number_of why)
+
 abbrev pub piece_of : List ℕ → ℕ → V1File → ℕ → V1Piece
 piece_of pieces plen f i =
     cond (ltb i (piece_count f.length plen))
@@ -80,13 +109,21 @@ v1_piece_of s n i = piece_in s n i (checked_of s)
 abbrev pub no_part : ℕ → V1Part
 no_part n = record { number = n; start = 0; size = 0; zeros = 0 }
 
+-- a part that was found
+abbrev pub found_part : PartFound → V1Part
+found_part p = record { number = 0; start = p.start; size = p.size; zeros = p.zeros }
+
+abbrev pub as_part : Result PartFound Refused → V1Part
+as_part (Ok p) = found_part p
+as_part (Err why) = no_part (number_of why)
+
 -- the string that the dictionary at `at` has for `pieces`
-unfoldable pub pieces_from : List ℕ → ℕ → ByteString
+unfoldable pub pieces_from : List ℕ → ℕ → Option Part
 pieces_from s at = string_in s (find_key key_pieces at (drop at s))
 
-abbrev pub place_of : ByteString → ℕ
-place_of NoString = 0
-place_of (Content a b) = a
+abbrev pub place_of : Option Part → ℕ
+place_of None = 0
+place_of (Some w) = w.start
 
 -- the content of `pieces` begins at `base`; an empty file has no hashes
 abbrev pub part_of : ℕ → ℕ → V1File → V1Part

@@ -2,11 +2,11 @@
 -- encodes which gets 0: hybrid is what has `pieces`; the v1 info hash is SHA-1 of the bytes whose SHA-256 the info hash is; the hash of a piece
 -- is that of the file's own piece and then so many zeros, in the bytes that the v1 half hashes; and a file's hashes stand in a row.
 -- Assumes nothing.
-use Rattle.std.specs.Prelude.{◌≡◌, ◌↔◌, true, List, ◌++◌, ℕ, zero, suc, ◌+◌, ◌-◌, ◌*◌, ◌/◌, ◌≤◌, ◌<◌, length, replicate}
+use Rattle.bencode.specs.Scalar.{part}
+use Rattle.std.specs.Prelude.{◌≡◌, ◌↔◌, true, List, ◌++◌, ℕ, zero, suc, ◌+◌, ◌-◌, ◌*◌, ◌/◌, ◌≤◌, ◌<◌, length, replicate, Option, Some, None}
 use Rattle.std.proofs.Math.Path.{refl, ap}
-use Rattle.std.proofs.Common.{sym, ◌∙◌, arith, add-mul}
+use Rattle.std.proofs.Common.{sym, ◌∙◌, arith, add-mul, eq-eqb, ne_eqb, lt-ltb}
 use Rattle.std.proofs.lemmas.Bool.{false≢true}
-use borrow.Author.Tests.{eq-eqb, ne_eqb, lt-ltb}
 use Rattle.hybrid.specs.EntryLaws.{is_there_lem}
 use Rattle.limits.specs.Limits.{max_levels}
 use Rattle.octets.specs.Octets.{cut}
@@ -17,8 +17,7 @@ use Rattle.tree.specs.Geometry.{piece_count}
 use Rattle.tree.proofs.GeometryLaws.{ceil_below}
 use Rattle.bencode.specs.Grammar.{dictionary, Entries, encode, Valid}
 use Rattle.bencode.specs.Parts.{Lookup, absent, present, lookup}
-use Rattle.bencode.specs.declared.scalar.ByteString.{ByteString}
-use Rattle.bencode.specs.declared.scalar.ByteString.TheVariants.{Content, NoString}
+use Rattle.bencode.specs.declared.part.Part.{Part}
 use Rattle.meaning.specs.Nth.{Nth}
 use Rattle.meaning.specs.Torrent.{File, info_of, plen_of, files_of}
 use Rattle.halves.specs.V1Keys.{key_pieces}
@@ -30,14 +29,11 @@ use Rattle.halves.specs.Decoded.{torrent_in, torrent_in_lem}
 use Rattle.torrent.specs.Torrent.{checked_of, read_of}
 use Rattle.torrent.specs.ReadMeans.{number_zero, info_hash, file_read_lem}
 use Rattle.v1.specs.Place.{file_size}
-use Rattle.v1.specs.V1.{no_hybrid, hybrid_of, file_of, pieces_in, piece_of, v1_piece_of, pieces_from, no_part, part_of, v1_pieces_of}
+use Rattle.v1.specs.V1.{HybridRead, V1Piece, V1Part, no_hybrid, hybrid_of, file_of, pieces_in, piece_of, v1_piece_of, pieces_from, no_part, part_of, v1_pieces_of}
 use Rattle.v1.specs.Asked.{Stands}
 use Rattle.v1.specs.HalfLaws.{Halves, same_size}
 use Rattle.v1.specs.KnownLaws.{known, no_pieces, pieces_stand, file_stands}
 use Rattle.v1.specs.ReadLaws.{piece_among, part_some}
-use Rattle.v1.specs.declared.read.HybridRead.{HybridRead}
-use Rattle.v1.specs.declared.read.V1Piece.{V1Piece}
-use Rattle.v1.specs.declared.read.V1Part.{V1Part}
 
 -- ---- what is said of a piece and of all pieces of file n, which is v
 
@@ -146,15 +142,15 @@ module _ (s : List ℕ) (es : Entries) (start : s ≡ encode (dictionary es)) (v
     some = rw plen_is at (known s got).plen_some
 
     -- `pieces` stands in s
-    from : (a b : ℕ) × (pieces_from s (checked_of s).keys.info.start ≡ Content a b)
+    from : (a b : ℕ) × (pieces_from s (checked_of s).keys.info.start ≡ part a b)
     from = by (pieces_from s (checked_of s).keys.info.start) refl
       where
-        by : (w : ByteString) → pieces_from s (checked_of s).keys.info.start ≡ w → (a b : ℕ) × (w ≡ Content a b)
-        by NoString q = absurd (false≢true (sym (no_pieces s (checked_of s) (known s got) NoString (sym q) refl) ∙ ap is_hybrid value ∙ there))
-        by (Content a b) q = (a, b, refl)
+        by : (w : Option Part) → pieces_from s (checked_of s).keys.info.start ≡ w → (a b : ℕ) × (w ≡ part a b)
+        by None q = absurd (false≢true (sym (no_pieces s (checked_of s) (known s got) None (sym q) refl) ∙ ap is_hybrid value ∙ there))
+        by (Some w) q = (w.start, w.end, refl)
 
     pieces_there : cut s from.0 (length (pieces_in es)) ≡ pieces_in es
-    pieces_there = rw value at (pieces_stand s (checked_of s) (known s got) (Content from.0 from.1) from.0 from.1 (sym from.2) refl)
+    pieces_there = rw value at (pieces_stand s (checked_of s) (known s got) (part from.0 from.1) from.0 from.1 (sym from.2) refl)
 
     module _ (n : ℕ) (v : File) (at : Nth (files_of es) n v) where
       inside_files : n < (checked_of s).files
@@ -197,7 +193,7 @@ module _ (s : List ℕ) (es : Entries) (start : s ≡ encode (dictionary es)) (v
 
       stands : Stands (length s) from.0 (plen_of es) (file_start (entries_of_half es) n) v.size (total (entries_of_half es))
       stands =
-          rw (value, plen_is, size_is) at (file_stands s (checked_of s) (known s got) (Content from.0 from.1) from.0 from.1 (sym from.2) refl (file_of (info_of (torrent_in s)) n) n refl)
+          rw (value, plen_is, size_is) at (file_stands s (checked_of s) (known s got) (part from.0 from.1) from.0 from.1 (sym from.2) refl (file_of (info_of (torrent_in s)) n) n refl)
 
       -- THE PART of all pieces of a file
       pub part_is : (v.size ≡ 0 → ⊥) → PiecesPartIs s (plen_of es) v (v1_piece_of s n) (v1_pieces_of s n)

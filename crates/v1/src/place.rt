@@ -4,7 +4,7 @@ ghost use Rattle.bencode.specs.Grammar.{Items};
 ghost use Rattle.halves.specs.V1Half.{entries_in};
 ghost use Rattle.v1.specs.Place.{spot_of, Fitting, is_sought, left_behind};
 
-use hybrid::{MOST_BYTES, V1Token, read_v1};
+use hybrid::{MOST_BYTES, read_v1};
 
 // Where a file begins among the bytes of all entries, padding included, and its length.
 #[derive(Clone, Copy)]
@@ -43,23 +43,21 @@ pub fn file_at(list: &[u8], file: usize) -> Spot
     let mut i = 1;
     let mut left = file;
     let mut start = 0;
+    // A cursor: the next position comes from the bytes, so no index is counted.
     while i < list.len() {
         match read_v1(list, i) {
-            V1Token::BadEntry => {
+            Err(_) => {
                 return Spot {
                     start: 0,
                     length: 0,
                 }; // never: each entry is well formed
             }
-            V1Token::Ended => {
+            Ok(None) => {
                 return Spot { start, length: 0 };
             }
-            V1Token::Entry {
-                padding,
-                length,
-                path: _,
-                next,
-            } => {
+            Ok(Some(entry)) => {
+                let padding = entry.padding;
+                let length = entry.length;
                 if is_sought(padding, left) {
                     return Spot { start, length };
                 }
@@ -71,7 +69,7 @@ pub fn file_at(list: &[u8], file: usize) -> Spot
                 }
                 left = left_behind(padding, left);
                 start += length;
-                i = next;
+                i = entry.next;
             }
         }
     }

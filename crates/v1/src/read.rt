@@ -1,5 +1,5 @@
 // What is answered of the v1 half of a torrent: whether it has one, the v1 info hash, and the v1 hashes of a file's pieces.
-ghost use Rattle.std.specs.Prelude.{◌≡◌, true, List, ℕ, ◌+◌, ◌*◌, ◌≤◌, ◌<◌, min};
+ghost use Rattle.std.specs.Prelude.{◌≡◌, true, List, ℕ, ◌+◌, ◌*◌, ◌≤◌, ◌<◌};
 ghost use Rattle.std.proofs.Math.ListN as L;
 ghost use Rattle.limits.specs.Limits.{largest_torrent};
 ghost use Rattle.octets.specs.Octets.{cut};
@@ -8,38 +8,30 @@ ghost use Rattle.bencode.specs.Grammar.{Items, Entries, dictionary};
 ghost use Rattle.halves.specs.V1Half.{entries_in, on_boundary, total};
 ghost use Rattle.halves.specs.Stream.{file_start, zeros_behind};
 ghost use Rattle.hybrid.specs.Entry.{StandsAt};
-ghost use Rattle.v1.specs.V1.{pieces_from, no_hybrid, hybrid_of, no_piece, piece_of, v1_piece_of, no_part, part_of, v1_pieces_of, file_of};
+ghost use Rattle.v1.specs.V1.{pieces_from, as_hybrid, hybrid_of, as_piece, piece_of, v1_piece_of, found_part, as_part, part_of, v1_pieces_of, file_of};
 ghost use Rattle.v1.specs.Place.{file_size, Fitting};
-ghost use Rattle.v1.specs.Asked.{Fits, Stands};
+ghost use Rattle.v1.specs.Asked.{Fits, Stands, Answers};
 
 use crate::place::file_at;
-use bencode::parts::{Found, find};
-use bencode::scalar::{ByteString, read_string};
-use hybrid::{Natural, Tallied, length_of, tally};
+use bencode::part::Part;
+use bencode::parts::find;
+use bencode::scalar::read_string;
+use hybrid::{Tallied, length_of, tally};
+use numbers::Refused;
+use octets::hash_at;
 use torrent::check::check;
 use tree::geometry::piece_count;
 
-// 0, whether the torrent is hybrid, 1 or 0, and its v1 info hash; or 19 to 28 or 31. Beside a refusal and beside 0 all is zero.
-#[derive(Clone, Copy)]
-pub struct HybridRead {
-    pub number: u32,
-    pub hybrid: u32,
-    pub hash: [u8; 20],
-}
-
-// 0, the v1 hash of a piece, and how many zeros behind the piece it covers; or 19 to 29, 31 or 3 beside zeros.
+// The v1 hash of a piece, and how many zeros behind the piece it covers.
 #[derive(Clone, Copy)]
 pub struct V1Piece {
-    pub number: u32,
     pub hash: [u8; 20],
     pub zeros: usize,
 }
 
-// 0, the part of the torrent that the v1 hashes of a file's pieces are, and how many zeros the last of them covers; or 19 to 29, 31 or 3
-// beside zeros.
+// The part of the torrent that the v1 hashes of a file's pieces are, and how many zeros the last of them covers.
 #[derive(Clone, Copy)]
 pub struct V1Part {
-    pub number: u32,
     pub start: usize,
     pub size: usize,
     pub zeros: usize,
@@ -53,69 +45,33 @@ pub struct V1File {
     pub total: usize,
 }
 
-fn no_hybrid(number: u32) -> HybridRead
-    ensures { result ≡ no_hybrid number }
-{
-    HybridRead {
-        number,
-        hybrid: 0,
-        hash: [0u8; 20],
-    }
-}
-
-fn no_piece(number: u32) -> V1Piece
-    ensures { result ≡ no_piece number }
-{
-    V1Piece {
-        number,
-        hash: [0u8; 20],
-        zeros: 0,
-    }
-}
-
-fn no_part(number: u32) -> V1Part
-    ensures { result ≡ no_part number }
-{
-    V1Part {
-        number,
-        start: 0,
-        size: 0,
-        zeros: 0,
-    }
+// A file of a hybrid: where the content of `pieces` begins in the torrent, the piece length, and the file in the v1 half.
+#[derive(Clone, Copy)]
+pub struct Sought {
+    pub base: usize,
+    pub plen: usize,
+    pub file: V1File,
 }
 
 // The string that the dictionary at `at` has for `pieces`.
-fn pieces_from(torrent: &[u8], at: usize) -> ByteString
+fn pieces_from(torrent: &[u8], at: usize) -> Option<Part>
     ensures { result ≡ pieces_from torrent.now at }
 {
-    match find(torrent, at, b"pieces") {
-        Found::Missing => ByteString::NoString,
-        Found::Part { start, end: _ } => read_string(torrent, start),
-    }
+    let found = find(torrent, at, b"pieces")?;
+    read_string(torrent, found.start)
 }
 
-// Whether the torrent is hybrid, and its v1 info hash: SHA-1 of the part that `info` is.
-pub fn read_hybrid(torrent: &[u8]) -> HybridRead
-    ensures { result ≡ hybrid_of torrent.now }
+// Where the torrent is hybrid, its v1 info hash: SHA-1 of the part that `info` is; or 19 to 28 or 31.
+pub fn read_hybrid(torrent: &[u8]) -> Result<Option<[u8; 20]>, Refused>
+    ensures { as_hybrid result ≡ hybrid_of torrent.now }
 {
-    let c = check(torrent);
-    let number = c.keys.number;
-    let info = c.keys.info.start;
-    let past = c.keys.info.end;
-    if number == 0 {
-        return match pieces_from(torrent, info) {
-            ByteString::NoString => no_hybrid(0),
-            ByteString::Content { start: _, end: _ } => {
-                let hash = sha_1::hash(&torrent[info..past]);
-                HybridRead {
-                    number: 0,
-                    hybrid: 1,
-                    hash,
-                }
-            }
-        };
+    let checked = check(torrent)?;
+    let info = checked.keys.info.start;
+    let past = checked.keys.info.end;
+    match pieces_from(torrent, info) {
+        None => Ok(None),
+        Some(Part { start: _, end: _ }) => Ok(Some(sha_1::hash(&torrent[info..past]))),
     }
-    no_hybrid(number)
 }
 
 fn no_v1_file() -> V1File
@@ -134,8 +90,8 @@ fn among(list: &[u8], plen: usize, file: usize) -> V1File
     ensures { (vs : Items) → Fitting list.now vs → on_boundary plen 0 (entries_in vs) ≡ true → result ≡ record { start = file_start (entries_in vs) file; length = file_size (entries_in vs) file; total = total (entries_in vs) } }
 {
     match tally(list, plen) {
-        Tallied::Amiss => no_v1_file(), // never: the list fits
-        Tallied::Sums { files: _, total } => {
+        None => no_v1_file(), // never: the list fits
+        Some(Tallied { files: _, total }) => {
             let f = file_at(list, file);
             V1File {
                 start: f.start,
@@ -152,25 +108,16 @@ fn v1_file(torrent: &[u8], at: usize, plen: usize, file: usize) -> V1File
     ensures { (info : Entries) → StandsAt torrent.now at (dictionary info) → Fits plen info file → result ≡ file_of info file }
 {
     match find(torrent, at, b"files") {
-        Found::Missing => match length_of(torrent, at) {
-            Natural::NoNatural => no_v1_file(), // never: a half without `files` has a length
-            Natural::Is(length) => V1File {
+        None => match length_of(torrent, at) {
+            None => no_v1_file(), // never: a half without `files` has a length
+            Some(length) => V1File {
                 start: 0,
                 length,
                 total: length,
             },
         },
-        Found::Part { start, end } => among(&torrent[start..end], plen, file),
+        Some(list) => among(&torrent[list.start..list.end], plen, file),
     }
-}
-
-fn least(a: usize, b: usize) -> usize
-    ensures { result ≡ min a b }
-{
-    if a < b {
-        return a;
-    }
-    b
 }
 
 // How many zeros the v1 hash of the piece at `at` covers, of which `left` bytes are the file's.
@@ -178,117 +125,88 @@ fn zeros_behind(plen: usize, all: usize, at: usize, left: usize) -> usize
     requires { at + left ≤ all }
     ensures { result ≡ zeros_behind plen all at left }
 {
-    let whole = least(plen, all - at);
-    let own = least(plen, left);
+    let whole = plen.min(all - at);
+    let own = plen.min(left);
     whole - own
 }
 
-// The 20 bytes at `at`.
-fn hash_at(torrent: &[u8], at: usize) -> [u8; 20]
-    requires { at + 20 ≤ L.length torrent.now }
-    ensures { result ≡ cut torrent.now at 20 }
+// Piece `piece` of a file; or 3 if it has none.
+fn piece_of(torrent: &[u8], sought: Sought, piece: usize) -> Result<V1Piece, Refused>
+    requires { Stands (L.length torrent.now) sought.base sought.plen sought.file.start sought.file.length sought.file.total }
+    ensures { (pieces : List ℕ) → cut torrent.now sought.base (L.length pieces) ≡ pieces → 20 * piece_count sought.file.total sought.plen ≤ L.length pieces → as_piece result ≡ piece_of pieces sought.plen sought.file piece }
 {
-    let mut h = [0u8; 20];
-    let mut i = 0;
-    while i < 20 {
-        h[i] = torrent[at + i];
-        i += 1;
-    }
-    h
-}
-
-// Piece `piece` of a file; the content of `pieces` begins at `base`.
-fn piece_of(
-    torrent: &[u8],
-    base: usize,
-    plen: usize,
-    start: usize,
-    length: usize,
-    total: usize,
-    piece: usize,
-) -> V1Piece
-    requires { Stands (L.length torrent.now) base plen start length total }
-    ensures { (pieces : List ℕ) → cut torrent.now base (L.length pieces) ≡ pieces → 20 * piece_count total plen ≤ L.length pieces → result ≡ piece_of pieces plen (record { start = start; length = length; total = total }) piece }
-{
+    let plen = sought.plen;
+    let start = sought.file.start;
+    let length = sought.file.length;
     let count = piece_count(length, plen);
     if piece >= count {
-        return no_piece(numbers::RULE_BROKEN);
+        return Err(Refused::RuleBroken);
     }
     let at = piece * plen;
     let first = start / plen;
-    let hash = hash_at(torrent, base + 20 * (first + piece));
-    let zeros = zeros_behind(plen, total, start + at, length - at);
-    V1Piece {
-        number: 0,
-        hash,
-        zeros,
-    }
+    let hash: [u8; 20] = hash_at(torrent, sought.base + 20 * (first + piece));
+    let zeros = zeros_behind(plen, sought.file.total, start + at, length - at);
+    Ok(V1Piece { hash, zeros })
 }
 
-// The v1 hash of `piece` of `file`, and how many zeros behind the piece it covers.
-pub fn v1_piece(torrent: &[u8], file: usize, piece: usize) -> V1Piece
-    ensures { result ≡ v1_piece_of torrent.now file piece }
+// The hashes of all pieces of a file; none if it is empty.
+fn part_of(sought: Sought) -> V1Part
+    requires { (size : ℕ) × Stands size sought.base sought.plen sought.file.start sought.file.length sought.file.total }
+    ensures { found_part result ≡ part_of sought.base sought.plen sought.file }
 {
-    let c = check(torrent);
-    let number = c.keys.number;
-    let info = c.keys.info.start;
-    let plen = c.keys.plen;
-    let files = c.files;
-    if number == 0 {
-        if file < files {
-            return match pieces_from(torrent, info) {
-                ByteString::NoString => no_piece(numbers::RULE_BROKEN),
-                ByteString::Content { start, end: _ } => {
-                    let f = v1_file(torrent, info, plen, file);
-                    piece_of(torrent, start, plen, f.start, f.length, f.total, piece)
-                }
-            };
-        }
-        return no_piece(numbers::NO_SUCH_PART);
-    }
-    no_piece(number)
-}
-
-// The hashes of all pieces of a file; the content of `pieces` begins at `base`.
-fn part_of(base: usize, plen: usize, start: usize, length: usize, total: usize) -> V1Part
-    requires { (size : ℕ) × Stands size base plen start length total }
-    ensures { result ≡ part_of base plen (record { start = start; length = length; total = total }) }
-{
+    let plen = sought.plen;
+    let start = sought.file.start;
+    let length = sought.file.length;
     if length == 0 {
-        return no_part(0);
+        return V1Part {
+            start: 0,
+            size: 0,
+            zeros: 0,
+        };
     }
     let count = piece_count(length, plen);
     let last = (count - 1) * plen;
     let first = start / plen;
-    let zeros = zeros_behind(plen, total, start + last, length - last);
+    let zeros = zeros_behind(plen, sought.file.total, start + last, length - last);
     V1Part {
-        number: 0,
-        start: base + 20 * first,
+        start: sought.base + 20 * first,
         size: 20 * count,
         zeros,
     }
 }
 
-// The part of the torrent that the v1 hashes of the pieces of `file` are.
-pub fn v1_pieces(torrent: &[u8], file: usize) -> V1Part
-    ensures { result ≡ v1_pieces_of torrent.now file }
+// File `file` of a hybrid; or 19 to 29, 31, or 3 where the torrent is none.
+fn seek(torrent: &[u8], file: usize) -> Result<Sought, Refused>
+    ensures { Answers torrent.now file result }
 {
-    let c = check(torrent);
-    let number = c.keys.number;
+    let c = check(torrent)?;
     let info = c.keys.info.start;
     let plen = c.keys.plen;
-    let files = c.files;
-    if number == 0 {
-        if file < files {
-            return match pieces_from(torrent, info) {
-                ByteString::NoString => no_part(numbers::RULE_BROKEN),
-                ByteString::Content { start, end: _ } => {
-                    let f = v1_file(torrent, info, plen, file);
-                    part_of(start, plen, f.start, f.length, f.total)
-                }
-            };
-        }
-        return no_part(numbers::NO_SUCH_PART);
+    if file >= c.files {
+        return Err(Refused::NoSuchPart);
     }
-    no_part(number)
+    match pieces_from(torrent, info) {
+        None => Err(Refused::RuleBroken),
+        Some(Part { start, end: _ }) => Ok(Sought {
+            base: start,
+            plen,
+            file: v1_file(torrent, info, plen, file),
+        }),
+    }
+}
+
+// The v1 hash of `piece` of `file`, and how many zeros behind the piece it covers; or 19 to 29, 31 or 3.
+pub fn v1_piece(torrent: &[u8], file: usize, piece: usize) -> Result<V1Piece, Refused>
+    ensures { as_piece result ≡ v1_piece_of torrent.now file piece }
+{
+    let sought = seek(torrent, file)?;
+    piece_of(torrent, sought, piece)
+}
+
+// The part of the torrent that the v1 hashes of the pieces of `file` are; or 19 to 29, 31 or 3.
+pub fn v1_pieces(torrent: &[u8], file: usize) -> Result<V1Part, Refused>
+    ensures { as_part result ≡ v1_pieces_of torrent.now file }
+{
+    let sought = seek(torrent, file)?;
+    Ok(part_of(sought))
 }

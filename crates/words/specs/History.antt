@@ -7,7 +7,7 @@ use Rattle.octets.specs.Octets.{Octets, cut}
 use Rattle.numbers.specs.declared.Answer.{Answer}
 use Rattle.sha256.specs.declared.Hashed.{Hashed}
 use Rattle.store.specs.Store.{file_length, store_size, usable, open_answer, open_after, held_answer}
-use Rattle.facts.specs.declared.FactsRead.{FactsRead}
+use Rattle.facts.specs.Facts.{FactsRead}
 use Rattle.facts.specs.Facts.{facts_answer}
 use Rattle.messages.specs.Take.{take_answer, take_after, reject_answer}
 use Rattle.serve.specs.Serve.{serve_answer, serve_after}

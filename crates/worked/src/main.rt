@@ -1,6 +1,8 @@
-// Cases worked by hand in document 01, on a file of five blocks (block i is 16,384 times the byte i + 1): the session, and
-// the cases that are not proved; and long runs in a tall tree. Each line is a number and a count.
+// Cases worked by hand, on a file of five blocks (block i is 16,384 times the byte i + 1): the session, and the cases that are not
+// proved; and long runs in a tall tree. Each line is a number and a count.
 #![tactic(auto)]
+
+ghost use Rattle.std.specs.Prelude.{◌≤◌, length};
 
 use kombudeva::{CountAnswer, Hash};
 use std::io;
@@ -66,101 +68,110 @@ const ONE_UNCLE_SET: [u8; 209] = *b"\
     \x00\x00\x00\x00\x00\x00\x00\x00\x00\x00\x00\x00\x00\x00\x00\x00\x00\x00\x00\x00\x00\x00\x00\x00\x00\x00\x00\x00\x00\x00\x00\x00\
     \x8a\xa4\x6b\x99\xf2\x90\x7a\x2e\x06\xa1\x2e\xed\x5a\xb6\xfc\xd5\xbd\x86\xbc\x7f\x49\xfe\x06\x2e\xea\xa7\x8a\x43\x04\xb3\x14\xeb";
 
-fn show(rt: &HostRuntime, a: CountAnswer) -> io::Result<()> {
-    let number = a.number;
-    let count = a.count;
-    println!(rt; "{number} {count}")
+// The store that the cases are put to; what it answers is printed.
+#[derive(Drop)]
+struct Bench<'a> {
+    rt: &'a HostRuntime,
+    store: &'a mut [u8],
 }
 
-fn open(rt: &HostRuntime, s: &mut [u8]) -> io::Result<()> {
-    let root = Hash { bytes: ROOT };
-    show(rt, kombudeva::kd_open(s, 81920, 16384, root))
+// What is before a message's hashes, with this index and so many hashes in base layer 0 and no proof layers.
+fn put_header(message: &mut [u8], index: u8, count: u16)
+    requires { 49 ≤ length message.old }
+{
+    message[0] = 22;
+    message[1..33].copy_from_slice(&ROOT);
+    message[40] = index;
+    message[43..45].copy_from_slice(&count.to_be_bytes());
 }
 
-// The message offered to the store.
-fn offer(rt: &HostRuntime, s: &mut [u8], m: &[u8]) -> io::Result<()> {
-    show(rt, kombudeva::kd_take(s, m))
-}
+impl Bench<'_> {
+    fn show(&self, answer: CountAnswer) -> io::Result<()> {
+        let rt = self.rt;
+        println!(rt; "{} {}", answer.number, answer.count)
+    }
 
-// A header alone, with this index and this length in base layer 0 and no proof layers: 3 where a rule fails, else 4.
-fn header(rt: &HostRuntime, s: &mut [u8], index: u8, high: u8, low: u8) -> io::Result<()> {
-    let mut m = [0u8; 49];
-    m[0] = 22;
-    let r = ROOT;
-    octets::put_hash(&mut m, 1, r);
-    m[40] = index;
-    m[43] = high;
-    m[44] = low;
-    offer(rt, s, &m)
-}
+    fn open(&mut self, length: u64) -> io::Result<()> {
+        let root = Hash { bytes: ROOT };
+        let answer = kombudeva::kd_open(self.store, length, 16384, root);
+        self.show(answer)
+    }
 
-// The true message (0,6,2,0): two leaves past the last block, both zeros.
-fn padding(rt: &HostRuntime, s: &mut [u8]) -> io::Result<()> {
-    let mut m = [0u8; 113];
-    m[0] = 22;
-    let r = ROOT;
-    octets::put_hash(&mut m, 1, r);
-    m[40] = 6;
-    m[44] = 2;
-    offer(rt, s, &m)
-}
+    // The message offered to the store.
+    fn offer(&mut self, message: &[u8]) -> io::Result<()> {
+        let answer = kombudeva::kd_take(self.store, message);
+        self.show(answer)
+    }
 
-fn session(rt: &HostRuntime, s: &mut [u8]) -> io::Result<()> {
-    let first = LEAVES_0_TO_3;
-    let second = LAYER_2;
-    open(rt, s)?;
-    padding(rt, s)?;
-    offer(rt, s, &first)?;
-    offer(rt, s, &second)?;
-    offer(rt, s, &first)?;
-    offer(rt, s, &first)
-}
+    // A header alone: 3 where a rule fails, else 4.
+    fn header(&mut self, index: u8, count: u16) -> io::Result<()> {
+        let mut message = [0u8; 49];
+        put_header(&mut message, index, count);
+        self.offer(&message)
+    }
 
-// Without and with proof layers that are not needed, and one uncle, which makes the anchor of the padding leaves held.
-fn whole(rt: &HostRuntime, s: &mut [u8]) -> io::Result<()> {
-    let plain = ALL_LEAVES;
-    let proof = ALL_LEAVES_PROOF_2;
-    let uncle = ONE_UNCLE_SET;
-    open(rt, s)?;
-    offer(rt, s, &plain)?;
-    open(rt, s)?;
-    offer(rt, s, &proof)?;
-    open(rt, s)?;
-    offer(rt, s, &uncle)?;
-    padding(rt, s)
-}
+    // The true message (0,6,2,0): two leaves past the last block, both zeros.
+    fn padding(&mut self) -> io::Result<()> {
+        let mut message = [0u8; 113];
+        put_header(&mut message, 6, 2);
+        self.offer(&message)
+    }
 
-// Refused 3: a run that ends past its layer, an index that is no multiple, lengths 0, 1, 3 and, the tree being too low for it, 1024; the
-// last two are well-formed but for their size, one of them begins past the last block.
-fn headers(rt: &HostRuntime, s: &mut [u8]) -> io::Result<()> {
-    header(rt, s, 8, 0, 2)?;
-    header(rt, s, 2, 0, 4)?;
-    header(rt, s, 0, 0, 0)?;
-    header(rt, s, 0, 0, 1)?;
-    header(rt, s, 0, 0, 3)?;
-    header(rt, s, 0, 4, 0)?;
-    header(rt, s, 4, 0, 2)?;
-    header(rt, s, 6, 0, 2)
-}
+    fn session(&mut self) -> io::Result<()> {
+        self.open(81920)?;
+        self.padding()?;
+        self.offer(&LEAVES_0_TO_3)?;
+        self.offer(&LAYER_2)?;
+        self.offer(&LEAVES_0_TO_3)?;
+        self.offer(&LEAVES_0_TO_3)
+    }
 
-// In a tree of height 14, of 2^14 blocks, 1024 and 8192 keep the rules: a header alone is 4 there. 16384 is 3.
-fn long_runs(rt: &HostRuntime, s: &mut [u8]) -> io::Result<()> {
-    let root = Hash { bytes: ROOT };
-    show(rt, kombudeva::kd_open(s, 268435456, 16384, root))?;
-    header(rt, s, 0, 4, 0)?;
-    header(rt, s, 0, 32, 0)?;
-    header(rt, s, 0, 64, 0)
-}
+    // Without and with proof layers that are not needed, and one uncle, which makes the anchor of the padding leaves held.
+    fn whole(&mut self) -> io::Result<()> {
+        self.open(81920)?;
+        self.offer(&ALL_LEAVES)?;
+        self.open(81920)?;
+        self.offer(&ALL_LEAVES_PROOF_2)?;
+        self.open(81920)?;
+        self.offer(&ONE_UNCLE_SET)?;
+        self.padding()
+    }
 
-fn tall(rt: &HostRuntime) -> io::Result<()> {
-    let mut s = Vec::from_elem(rt.alloc(), 0u8, 1100000)?;
-    long_runs(rt, &mut s)
+    // Refused 3: a run that ends past its layer, an index that is no multiple, lengths 0, 1, 3 and, the tree being too low for it, 1024; the
+    // last two are well-formed but for their size, one of them begins past the last block.
+    fn headers(&mut self) -> io::Result<()> {
+        self.header(8, 2)?;
+        self.header(2, 4)?;
+        self.header(0, 0)?;
+        self.header(0, 1)?;
+        self.header(0, 3)?;
+        self.header(0, 1024)?;
+        self.header(4, 2)?;
+        self.header(6, 2)
+    }
+
+    // In a tree of height 14, of 2^14 blocks, 1024 and 8192 keep the rules: a header alone is 4 there. 16384 is 3.
+    fn long_runs(&mut self) -> io::Result<()> {
+        self.open(268435456)?;
+        self.header(0, 1024)?;
+        self.header(0, 8192)?;
+        self.header(0, 16384)
+    }
 }
 
 fn main(rt: HostRuntime) -> io::Result<()> {
-    let mut s = [0u8; 567];
-    session(&rt, &mut s)?;
-    whole(&rt, &mut s)?;
-    headers(&rt, &mut s)?;
-    tall(&rt)
+    let mut small = [0u8; 567];
+    let mut bench = Bench {
+        rt: &rt,
+        store: &mut small,
+    };
+    bench.session()?;
+    bench.whole()?;
+    bench.headers()?;
+    let mut tall = vec![in rt.alloc(); 0u8; 1_100_000]?;
+    let mut bench = Bench {
+        rt: &rt,
+        store: &mut tall,
+    };
+    bench.long_runs()
 }

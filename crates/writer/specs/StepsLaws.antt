@@ -2,9 +2,8 @@
 -- Assumes nothing.
 use Rattle.std.specs.Prelude.{◌≡◌, Bool, true, false, List, ◌++◌, map, ℕ, ◌+◌, ◌-◌, ◌≤◌, ◌<◌, length, take}
 use Rattle.std.proofs.Math.Path.{refl, sym}
-use Rattle.std.proofs.Common.{ap, ap₂, ◌∙◌, arith, length-append, length-take-le}
+use Rattle.std.proofs.Common.{ap, ap₂, ◌∙◌, arith, length-append, length-take-le, ne_eqb, lt-ltb, le-ltb}
 use Rattle.std.proofs.lemmas.List.{length-map}
-use borrow.Author.Tests.{ne_eqb, lt-ltb, le-ltb}
 use Rattle.octets.specs.Octets.{pasted}
 use Rattle.numbers.specs.Numbers.{wrong_size, torrent_too_large, no_room, refused, done}
 use Rattle.sorting.specs.SortedBy.{sorted_by}
@@ -14,7 +13,7 @@ use Rattle.writer_meaning.specs.Content.{Item, item_before}
 use Rattle.writer_meaning.specs.Number.{meet, content_number}
 use Rattle.writer_meaning.proofs.GoodLaws.{all_passed, good}
 use Rattle.writer_lists.specs.Lists.{record_count, item_at, list_form, content_of}
-use Rattle.writer_order.specs.Order.{root_before, comes, AllInForm, positions, InOrder, most_files}
+use Rattle.writer_order.specs.Order.{root_before, path_lower, root_lower, AllInForm, positions, InOrder, most_files}
 use Rattle.writer_order.specs.OrderLaws.{content_there, all_placed, positions_length}
 use Rattle.writer_order.specs.InOrderLaws.{all_permuted, tree_in_order, meet_told, roots_in_order}
 use Rattle.writer_order.specs.Neighbours.{neighbours, leads}
@@ -33,18 +32,18 @@ module _ (list text : List ℕ) (h : list_form list text ≡ true) where
   places a n e p = rw (p, e) (all_placed list text h)
 
   -- then by root
-  pub roots_right : (a b : List ℕ) (n : ℕ) → n ≡ record_count list → a ≡ positions n → b ≡ sorted_by (comes false list text) a
+  pub roots_right : (a b : List ℕ) (n : ℕ) → n ≡ record_count list → a ≡ positions n → b ≡ sorted_by (root_lower list text) a
       → InOrder root_before list text b
   roots_right a b n e p s =
       rw (s, p, e) (roots_in_order list text (positions (record_count list)) (all_placed list text h) (all_permuted list text))
 
   -- then by path
-  pub tree_right_lem : (b c : List ℕ) → InOrder root_before list text b → c ≡ sorted_by (comes true list text) b
+  pub tree_right_lem : (b c : List ℕ) → InOrder root_before list text b → c ≡ sorted_by (path_lower list text) b
       → InOrder item_before list text c
   tree_right_lem b c o s = rw s (tree_in_order list text b o.placed o.permuted)
 
   -- and by root again, where there are layers
-  pub rest_sorted : (c d : List ℕ) → InOrder item_before list text c → d ≡ sorted_by (comes false list text) c → ForRest list text d
+  pub rest_sorted : (c d : List ℕ) → InOrder item_before list text c → d ≡ sorted_by (root_lower list text) c → ForRest list text d
   rest_sorted c d o s =
       let i : InOrder root_before list text d = rw s (roots_in_order list text c o.placed o.permuted) in
       record { placed = i.placed; roots = d; by_root = i; as_roots = refl }
@@ -55,11 +54,11 @@ module _ (list text : List ℕ) (h : list_form list text ≡ true) where
       let i = roots_in_order list text c o.placed o.permuted in
       record {
         placed = o.placed;
-        roots = sorted_by (comes false list text) c;
+        roots = sorted_by (root_lower list text) c;
         by_root = i;
         as_roots =
-            rest_any_order (map (item_at list text) c) (map (item_at list text) (sorted_by (comes false list text) c))
-            (map_permuted (item_at list text) c (sorted_by (comes false list text) c) (sorted_permuted (comes false list text) c))
+            rest_any_order (map (item_at list text) c) (map (item_at list text) (sorted_by (root_lower list text) c))
+            (map_permuted (item_at list text) c (sorted_by (root_lower list text) c) (sorted_permuted (root_lower list text) c))
             (sym e ∙ z);
       }
 
@@ -105,7 +104,7 @@ module _ (list text : List ℕ) (h : list_form list text ≡ true) where
   pub info_room : (plen : ℕ) (name b : List ℕ) (n : ℕ) → InOrder item_before list text b → length (torrent_bytes list text plen name) ≤ n
       → 0 + length (info_bytes plen name (map (item_at list text) b)) ≤ n
   info_room plen name b n o l =
-      let c = sorted_by (comes false list text) b in
+      let c = sorted_by (root_lower list text) b in
       let s = whole_size plen name b c o (roots_in_order list text b o.placed o.permuted)
       (length (info_bytes plen name (map (item_at list text) b))) (length (rest_bytes (map (item_at list text) c))) refl refl in
       omega arith

@@ -4,6 +4,7 @@
 
 ghost use Rattle.std.specs.Prelude.{◌≡◌, ◌≤◌, length};
 ghost use Rattle.octets.specs.Octets.{pasted};
+ghost use Rattle.numbers.specs.Refusals.{answer_of};
 ghost use Rattle.writer_meaning.specs.Content.{item_before};
 ghost use Rattle.writer_meaning.specs.Number.{content_number};
 ghost use Rattle.writer_lists.specs.Lists.{content_of};
@@ -11,21 +12,17 @@ ghost use Rattle.writer_order.specs.Order.{InOrder, most_files};
 ghost use Rattle.writer.specs.Write.{torrent_bytes, write_answer, write_after};
 ghost use Rattle.writer.specs.Steps.{Prepared, MeasuredRight, ForRest};
 
-use numbers::{Answer, refusal, success};
+use numbers::{Answer, Refused};
+use sorting::sort::sort;
 use writer_lists::form::{RECORD, list_form};
+use writer_order::compare::{ByPath, ByRoot};
 use writer_order::meet::meets;
-use writer_order::number::{content_number, root_number};
-use writer_order::sort::{place, sort};
+use writer_order::number::{check_content, root_number};
+use writer_order::places::place;
 use writer_output::whole::{MOST_FILES, info_size, put_info, put_rest, rest_size, too_many};
 
-// What is worked out of a list before a byte is written: its number, the size of its torrent.
-#[derive(Clone, Copy)]
-pub struct Measured {
-    pub number: u32,
-    pub size: usize,
-}
-
-// The number and the size: from the positions by root and layer, then from those in tree order, which `at` is left with.
+// The size of the torrent, or the refusal of its content: from the positions by root and layer, then from those in tree order, which `at` is
+// left with.
 fn measure(
     list: &[u8],
     text: &[u8],
@@ -33,21 +30,20 @@ fn measure(
     name: &[u8],
     at: &mut [u32],
     room: &mut [u32],
-) -> Measured
+) -> Result<usize, Refused>
     requires { Prepared list.now text.now at.old room.old }
     ensures { MeasuredRight list.now text.now plen name.now at.new result }
 {
-    let n = at.len();
     place(at);
-    sort(list, text, false, at, room, n);
+    sort(&ByRoot { list, text }, at, room);
     let rest = rest_size(list, text, at);
     let roots = root_number(list, text, plen, at, rest);
-    sort(list, text, true, at, room, n);
+    sort(&ByPath { list, text }, at, room);
     let info = info_size(list, text, at, plen, name);
     let meet = meets(list, text, at);
     let size = info + rest;
-    let number = content_number(list, text, plen, size, meet, roots);
-    Measured { number, size }
+    check_content(list, text, plen, size, meet, roots)?;
+    Ok(size)
 }
 
 // `at`, which has the positions in tree order, gets those that `piece layers` is written of. Without layers the order does not matter: the
@@ -56,11 +52,10 @@ fn order_for_rest(list: &[u8], text: &[u8], at: &mut [u32], room: &mut [u32])
     requires { Prepared list.now text.now at.old room.old × InOrder item_before list.now text.now at.old }
     ensures { ForRest list.now text.now at.new }
 {
-    let n = at.len();
     if rest_size(list, text, at) == 2 {
         return;
     }
-    sort(list, text, false, at, room, n);
+    sort(&ByRoot { list, text }, at, room);
 }
 
 // Writes the torrent; `at` has the positions in tree order.
@@ -93,22 +88,17 @@ fn write_in(
     at: &mut [u32],
     room: &mut [u32],
     out: &mut [u8],
-) -> Answer
+) -> Result<u64, Refused>
     requires { Prepared list.now text.now at.old room.old }
-    ensures { (result ≡ write_answer list.now text.now plen name.now out.old)
+    ensures { (answer_of result ≡ write_answer list.now text.now plen name.now out.old)
         × (out.new ≡ write_after list.now text.now plen name.now out.old) }
 {
-    let measured = measure(list, text, plen, name, at, room);
-    let number = measured.number;
-    let size = measured.size;
-    if number != 0 {
-        return refusal(number);
-    }
+    let size = measure(list, text, plen, name, at, room)?;
     if out.len() < size {
-        return refusal(numbers::NO_ROOM);
+        return Err(Refused::NoRoom);
     }
     put_torrent(list, text, plen, name, at, room, out);
-    success(size as u64)
+    Ok(size as u64)
 }
 
 // What `write` answers and leaves, with work space for as many positions as a torrent has files at most.
@@ -120,17 +110,17 @@ fn write_with(
     at: &mut [u32],
     room: &mut [u32],
     out: &mut [u8],
-) -> Answer
+) -> Result<u64, Refused>
     requires { (length at.old ≡ most_files) × (length room.old ≡ most_files) }
-    ensures { (result ≡ write_answer list.now text.now plen name.now out.old)
+    ensures { (answer_of result ≡ write_answer list.now text.now plen name.now out.old)
         × (out.new ≡ write_after list.now text.now plen name.now out.old) }
 {
     if !list_form(list, text) {
-        return refusal(numbers::WRONG_SIZE);
+        return Err(Refused::WrongSize);
     }
     let n = list.len() / RECORD;
     if too_many(n) {
-        return refusal(numbers::TORRENT_TOO_LARGE);
+        return Err(Refused::TorrentTooLarge);
     }
     write_in(list, text, plen, name, &mut at[0..n], &mut room[0..n], out)
 }
@@ -142,5 +132,5 @@ pub fn write(list: &[u8], text: &[u8], plen: usize, name: &[u8], out: &mut [u8])
 {
     let mut at = [0u32; MOST_FILES];
     let mut room = [0u32; MOST_FILES];
-    write_with(list, text, plen, name, &mut at, &mut room, out)
+    Answer::from(write_with(list, text, plen, name, &mut at, &mut room, out))
 }

@@ -8,6 +8,7 @@ pub fn elements_fit(path: &[u8]) -> bool
 {
     let n = path.len();
     let mut at = 0;
+    // A `while`: the position moves by what was read there.
     while at < n {
         let left = n - at;
         if left < 4 {

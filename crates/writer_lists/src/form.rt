@@ -46,12 +46,10 @@ pub fn list_form(list: &[u8], text: &[u8]) -> bool
         return false;
     }
     let n = list.len() / RECORD;
-    let mut i = 0;
-    while i < n {
+    for i in 0..n {
         if !form_at(list, text, RECORD * i) {
             return false;
         }
-        i += 1;
     }
     true
 }

@@ -17,6 +17,7 @@ fn before_from(one: &[u8], other: &[u8], from: usize) -> bool
         (elements_in (length other.now) other.now) }
 {
     let mut at = from;
+    // A `while`: the position moves by what was read there.
     while at < one.len() {
         if other.len() <= at {
             return false;
@@ -43,6 +44,7 @@ pub fn path_before(one: &[u8], other: &[u8]) -> bool
 {
     let n = front(one, other);
     let mut at = 0;
+    // A `while`: the position moves by what was read there.
     while at < one.len() {
         let m = word_at(one, at);
         let start = at + 4;
@@ -65,6 +67,7 @@ pub fn path_begins(one: &[u8], other: &[u8]) -> bool
         (elements_in (length other.now) other.now) }
 {
     let mut at = 0;
+    // A `while`: the position moves by what was read there.
     while at < one.len() {
         if other.len() <= at {
             return false;
@@ -105,10 +108,8 @@ pub fn lower(list: &[u8], text: &[u8], one: usize, other: usize) -> bool
     let m = word_at(list, one + 48 + 4);
     let t = word_at(list, other + 48);
     let n = word_at(list, other + 48 + 4);
-    if s == t {
-        if m == n {
-            return false;
-        }
+    if s == t && m == n {
+        return false;
     }
     path_before(&text[s..s + m], &text[t..t + n])
 }

@@ -2,10 +2,9 @@
 -- Assumes nothing.
 use Rattle.std.specs.Prelude.{◌≡◌, Bool, true, cond, ◌&&◌, ◌||◌, not, List, [], ◌∷◌, ℕ, ◌≤◌, length, eqb, ltb}
 use Rattle.std.proofs.Math.Path.{refl}
-use Rattle.std.proofs.Common.{sym}
+use Rattle.std.proofs.Common.{sym, eqb-true, ltb-false, le-leb, eq-eqb}
 use Rattle.std.proofs.Math.Bool.{false}
-use Rattle.std.proofs.lemmas.Bool.{false≢true}
-use borrow.Author.Tests.{not-false, eqb-true, ltb-false, le-leb, eq-eqb}
+use Rattle.std.proofs.lemmas.Bool.{false≢true, not-false}
 use Rattle.limits.specs.Limits.{longest_file}
 use Rattle.octets.specs.Octets.{same, zero_hash}
 use Rattle.octets.specs.OctetsLaws.{same_true}

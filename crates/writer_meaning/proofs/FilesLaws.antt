@@ -1,14 +1,13 @@
 -- A right tree and its files: paths in tree order of which none leads to, or through, another, and the tree written of the files is not
 -- longer. So a right tree is the tree of its files, but for keys that nobody reads.
 -- Assumes nothing.
-use Rattle.std.specs.Prelude.{◌≡◌, true, ◌⊎◌, ℕ, zero, suc, ◌+◌, ◌≤◌, ◌<◌, length}
+use Rattle.std.specs.Prelude.{◌≡◌, true, ◌⊎◌, ℕ, zero, suc, ◌+◌, ◌≤◌, ◌<◌, length, List, [], ◌∷◌, ◌++◌, map}
 use Rattle.std.proofs.Math.Path.{refl, ap}
-use Rattle.std.proofs.Common.{sym, ap₂, ◌∙◌, ne_eqb}
+use Rattle.std.proofs.Common.{sym, ap₂, ◌∙◌, ne_eqb, append_assoc, arith}
 use Rattle.std.proofs.Math.Bool.{false}
 use Rattle.std.proofs.lemmas.Bool.{false≢true}
 use Rattle.std.proofs.Math.Logic.{inl, inr}
-use mathlib.Core.List.{List, [], ◌∷◌, ◌++◌, map, map-append, append_assoc}
-use native.Mathlib.Omega.{arith}
+use Rattle.std.proofs.lemmas.List.{map-append}
 use Rattle.limits.specs.Limits.{longest_file}
 use Rattle.octets.specs.Octets.{same, zero_hash}
 use Rattle.octets.specs.OctetsLaws.{same_refl, same_ne}

@@ -1,17 +1,15 @@
 -- A path that is too long for 32 levels makes the torrent too deep, and nothing else does: with enough levels it is strict.
 -- Assumes nothing.
-use Rattle.std.specs.Prelude.{◌≡◌, Bool, true, false, cond, length, eqb}
+use Rattle.std.specs.Prelude.{◌≡◌, Bool, true, false, cond, length, eqb, List, [], ◌∷◌, ◌++◌, ℕ, zero, suc, ◌≤◌, ◌<◌, ◌^◌, Err}
+use Rattle.bencode.specs.declared.walk.Amiss.TheVariants.{TooDeep}
 use Rattle.std.proofs.Math.Path.{refl}
-use Rattle.std.proofs.Common.{sym, ap, ◌∙◌, inl, inr, arith}
-use mathlib.Core.List.{List, [], ◌∷◌, ◌++◌, append-nil}
-use Prim.Native.Nat.{ℕ, zero, suc, ◌+◌, ◌≤◌, ◌<◌, ◌^◌}
+use Rattle.std.proofs.Common.{sym, ap, ◌∙◌, inl, inr, arith, append-nil}
 use Rattle.limits.specs.Limits.{max_levels}
 use Rattle.numbers.specs.Numbers.{nested_too_deeply}
 use Rattle.bencode.specs.Grammar.{letter_d, Value, integer, string, dictionary, Entries, no_entries, entry, encode, encode_entries, precedes, KeyBefore, none, after, Valid, EntriesValid}
 use Rattle.bencode.specs.Walk.{walk_value}
 use Rattle.bencode.specs.Strict.{strictness}
 use Rattle.bencode.specs.DepthLaws.{OpensTooDeep, deep_complete, fits_or_opens, begun}
-use Rattle.bencode.specs.declared.walk.Walked.TheVariants.{TooDeep}
 use Rattle.meaning.specs.Counting.{Member}
 use Rattle.meaning.specs.Keys.{key_length, key_pieces_root}
 use Rattle.writer_meaning.specs.Content.{Item, in_tree_order, grown, tree_of_all, properties, torrent_of}
@@ -25,7 +23,7 @@ use Rattle.writer_meaning.proofs.ValidLaws.{tree_levels}
 pub deep_number : (t : Entries) (n : ℕ) → Valid (dictionary t) n → (Valid (dictionary t) max_levels → ⊥) → strictness (encode (dictionary t)) ≡ nested_too_deeply
 deep_number t n h d = elim (fits_or_opens (dictionary t) n max_levels h) [ inl v ↦ absurd (d v) | inr o ↦ too_deep_lem (o []) ]
   where
-    first : (xs : List ℕ) → encode (dictionary t) ≡ letter_d ∷ xs → walk_value max_levels 0 (encode (dictionary t)) ≡ TooDeep → strictness (encode (dictionary t)) ≡ nested_too_deeply
+    first : (xs : List ℕ) → encode (dictionary t) ≡ letter_d ∷ xs → walk_value max_levels 0 (encode (dictionary t)) ≡ (Err TooDeep) → strictness (encode (dictionary t)) ≡ nested_too_deeply
     first xs e w = rw e (unfold strictness in rw (rw e at w) refl)
 
     too_deep_lem : OpensTooDeep max_levels (encode (dictionary t) ++ []) → strictness (encode (dictionary t)) ≡ nested_too_deeply

@@ -1,16 +1,12 @@
 -- What is written of a good content is read back: the value is strict bencoding of at most 32 levels, it has the five keys, the files
 -- of the list in tree order, and for each of them its layer.
 -- Assumes nothing.
-use Rattle.std.specs.Prelude.{◌≡◌, Bool, false, ◌&&◌, length, leb, ltb, eqb}
+use Rattle.std.specs.Prelude.{◌≡◌, Bool, false, ◌&&◌, length, leb, ltb, eqb, List, [], ◌∷◌, map, ℕ, zero, suc, ◌-◌, ◌*◌, ◌^◌, ◌<◌}
 use Rattle.std.proofs.Math.Path.{refl, ap}
-use Rattle.std.proofs.Common.{sym, ap₂, ◌∙◌}
+use Rattle.std.proofs.Common.{sym, ap₂, ◌∙◌, arith, leb-true, ltb-true, ltb-false}
 use Rattle.std.proofs.Math.Bool.{true, and-eq-true_iff}
 use Rattle.std.proofs.lemmas.Bool.{false≢true}
 use Rattle.std.proofs.Math.Logic.{inl, inr}
-use mathlib.Core.List.{List, [], ◌∷◌, map}
-use Prim.Native.Nat.{ℕ, zero, suc, ◌-◌, ◌*◌, ◌^◌, ◌<◌}
-use native.Mathlib.Omega.{arith}
-use borrow.Author.Tests.{leb-true, ltb-true, ltb-false}
 use Rattle.limits.specs.Limits.{max_levels}
 use Rattle.octets.specs.Octets.{same}
 use Rattle.tree.specs.Geometry.{block_length, block_count, height, is_piece_length, piece_layer, piece_count}

@@ -1,11 +1,10 @@
 -- Only the tree of files that can be written is right: each path's elements are, each file is, and no path leads to, or through, where
 -- the next one ends.
 -- Assumes nothing.
-use Rattle.std.specs.Prelude.{◌≡◌, Bool, false, ◌&&◌, ◌⊎◌, ℕ}
+use Rattle.std.specs.Prelude.{◌≡◌, Bool, false, ◌&&◌, ◌⊎◌, ℕ, List, [], ◌∷◌}
 use Rattle.std.proofs.Math.Path.{refl, ap}
 use Rattle.std.proofs.Common.{sym, ◌∙◌, inl, inr}
 use Rattle.std.proofs.Math.Bool.{true, false≢true, and-eq-true_iff}
-use mathlib.Core.List.{List, [], ◌∷◌}
 use Rattle.octets.specs.Octets.{same}
 use Rattle.octets.specs.OctetsLaws.{same_refl, same_ne, same_false}
 use Rattle.bencode.specs.Grammar.{Value, dictionary, Entries, no_entries, entry}

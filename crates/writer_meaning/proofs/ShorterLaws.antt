@@ -1,10 +1,9 @@
 -- A dictionary that has all keys of another, each with a value at least as long, is at least as long.
 -- Assumes nothing.
 use Rattle.std.specs.Prelude.{◌≡◌, refl, List, ◌++◌, ℕ, ◌+◌, ◌≤◌, length}
-use Rattle.std.proofs.Common.{sym, ◌∙◌, length-append}
+use Rattle.std.proofs.Common.{sym, ◌∙◌, length-append, arith}
 use Rattle.std.proofs.Math.Path.{ap}
 use Rattle.std.proofs.Math.Bool.{Bool, true, false, cond, false≢true}
-use native.Mathlib.Omega.{arith}
 use Rattle.octets.specs.Octets.{same}
 use Rattle.octets.specs.OctetsLaws.{same_true, same_ne}
 use Rattle.bencode.specs.Grammar.{Value, Entries, no_entries, entry, encode_string, encode, encode_entries, precedes, KeyBefore, after, Valid, EntriesValid}

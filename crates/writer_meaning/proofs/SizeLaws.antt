@@ -3,8 +3,7 @@
 -- Assumes nothing.
 use Rattle.std.specs.Prelude.{◌≡◌, false, List, [], ◌∷◌, ◌++◌, map, ℕ, suc, ◌+◌, ◌-◌, length, drop}
 use Rattle.std.proofs.Math.Path.{refl, ap}
-use Rattle.std.proofs.Common.{sym, ap₂, ◌∙◌, length-append}
-use native.Mathlib.Omega.{arith}
+use Rattle.std.proofs.Common.{sym, ap₂, ◌∙◌, length-append, arith}
 use Rattle.std.proofs.lemmas.List.{length-replicate}
 use Rattle.bencode.specs.Grammar.{letter_e, dictionary, encode_string, encode}
 use Rattle.sorting.specs.SortedBy.{sorted_by, Permuted, none, keep, swap, then}

@@ -1,11 +1,10 @@
 -- A test that one of a list passes: which one, and that the list's order does not matter.
 -- Assumes nothing.
-use Rattle.std.specs.Prelude.{◌≡◌, Bool, true, false, ◌||◌}
+use Rattle.std.specs.Prelude.{◌≡◌, Bool, true, false, ◌||◌, List, [], ◌∷◌}
 use Rattle.std.proofs.Math.Path.{refl, ap}
 use Rattle.std.proofs.Common.{sym, ◌∙◌}
 use Rattle.std.proofs.lemmas.Bool.{false≢true}
 use Rattle.std.proofs.Math.Logic.{inl, inr}
-use mathlib.Core.List.{List, [], ◌∷◌}
 use Rattle.numbers.specs.Tests.{or_one}
 use Rattle.meaning.specs.Counting.{Member}
 use Rattle.sorting.specs.SortedBy.{Permuted}

@@ -1,11 +1,9 @@
 -- 26 and 28 of files that stand by their roots, and the layers in their order.
 -- Assumes nothing.
 use Rattle.std.specs.Prelude.{◌≡◌, refl, Bool, false, cond, ◌||◌, ◌&&◌, ◌⊎◌, List, [], ◌∷◌, ℕ, ◌<◌, eqb, ltb}
-use Rattle.std.proofs.Common.{sym, ap, ap₂, ◌∙◌, inl, inr}
+use Rattle.std.proofs.Common.{sym, ap, ap₂, ◌∙◌, inl, inr, arith, eqb-true, eq-eqb, ltb-true, lt-ltb}
 use Rattle.std.proofs.Math.Bool.{true, not, and-eq-true_iff}
 use Rattle.std.proofs.lemmas.Bool.{false≢true}
-use native.Mathlib.Omega.{arith}
-use borrow.Author.Tests.{eqb-true, eq-eqb, ltb-true, lt-ltb}
 use Rattle.numbers.specs.Tests.{or_one}
 use Rattle.octets.specs.Octets.{same}
 use Rattle.octets.specs.OctetsLaws.{same_true, same_refl, same_eq}
@@ -22,7 +20,7 @@ use Rattle.writer_meaning.proofs.SomeLaws.{or_left, or_right, both_ways, some_th
 use Rattle.sorting.specs.SortedByLaws.{Ordered, OrderedFrom, ordered_skip}
 use Rattle.writer_meaning.proofs.OrderLaws.{layer_one_way, layer_behind}
 use Rattle.writer_order.specs.Order.{root_before}
-use Rattle.writer_order.specs.Neighbours.{runs, full_ones, agree, first_wrong, clash}
+use Rattle.writer_order.specs.Neighbours.{runs, full_ones, agree, first_wrong, clash, clash_by}
 use Rattle.writer_order.specs.RunsLaws.{lower_root, Settled, Found, one, two, runs_found, runs_settled}
 
 -- ---- a part of a list in order is in order
@@ -134,7 +132,7 @@ one_root xs x y m n r =
     record { one = a.0; other = b.0; one_full = a.1; other_full = b.1; same_root = r }
 
 pub lengths_clash_lem : (plen : ℕ) (xs : List Item) → Ordered root_before xs → clash false plen xs ≡ lengths_clash xs
-unfolding clash
+unfolding clash_by
 lengths_clash_lem plen xs o =
     both_ways (runs (first_wrong false plen) (λ (x y : Item). not (agree false x y)) (full_ones xs)) (lengths_clash xs)
     (λ e. from (runs_found (first_wrong false plen) (agree false) (full_ones xs) e)) to
@@ -190,7 +188,7 @@ module _ (plen : ℕ) (xs : List Item) (o : Ordered root_before xs) (l : lengths
       (not (same (layer_root x.layer (piece_layer plen) (height (block_count x.size))) x.root))).0 e).0 in omega arith
 
   pub layers_clash : clash true plen xs ≡ some (gives_other plen) xs || two_layers xs
-  unfolding clash
+  unfolding clash_by
   layers_clash =
       both_ways (runs (first_wrong true plen) (λ (x y : Item). not (agree true x y)) (full_ones xs))
       (some (gives_other plen) xs || two_layers xs) (λ e. from (runs_found (first_wrong true plen) (agree true) (full_ones xs) e)) to

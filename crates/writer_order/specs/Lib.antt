@@ -8,7 +8,6 @@ pub mod RunsLaws
 pub mod ClashLaws
 pub mod StepsLaws
 pub mod LayerLaws
-pub mod Items
 pub mod ItemLaws
 pub mod InOrderLaws
 pub mod NumberLaws

@@ -1,6 +1,6 @@
 -- What two files that stand side by side say of a list in order.
 -- Assumes nothing.
-use Rattle.std.specs.Prelude.{Bool, false, cond, ◌||◌, ◌&&◌, not, List, [], ◌∷◌, ℕ, eqb, ltb}
+use Rattle.std.specs.Prelude.{Bool, false, cond, ◌||◌, ◌&&◌, not, List, [], ◌∷◌, ℕ, eqb, ltb, Option, Some, None}
 use Rattle.octets.specs.Octets.{same}
 use Rattle.writer_meaning.specs.Content.{Item}
 use Rattle.writer_meaning.specs.Number.{begins, gives_other}
@@ -42,11 +42,17 @@ agree layers x y = cond layers (same x.layer y.layer) (eqb x.size y.size)
 abbrev pub first_wrong : Bool → ℕ → Item → Bool
 first_wrong layers plen x = layers && gives_other plen x
 
--- of non-empty files that stand by their roots: whether two with one root have different lengths; or whether two with one root have
--- different layers, or a first one's layer does not give its root
-unfoldable pub clash : Bool → ℕ → List Item → Bool
-clash layers plen xs = runs (first_wrong layers plen) (λ (x y : Item). not (agree layers x y)) (full_ones xs)
+-- of non-empty files that stand by their roots: whether one is wrong alone that is the first of its run, or two that follow each other in a
+-- run do not agree
+unfoldable pub clash_by : (Item → Bool) → (Item → Item → Bool) → List Item → Bool
+clash_by alone beside xs = runs alone (λ (x y : Item). not (beside x y)) (full_ones xs)
+
+-- whether two with one root have different lengths; or whether two with one root have different layers, or a first one's layer does not give
+-- its root
+abbrev pub clash : Bool → ℕ → List Item → Bool
+clash layers plen xs = clash_by (first_wrong layers plen) (agree layers) xs
 
 -- what is wrong at a file that follows another, if one was seen
-abbrev pub wrong_next : Bool → ℕ → Bool → Item → Item → Bool
-wrong_next layers plen seen x y = cond (seen && same x.root y.root) (not (agree layers x y)) (first_wrong layers plen y)
+abbrev pub wrong_next : (Item → Bool) → (Item → Item → Bool) → Option Item → Item → Bool
+wrong_next alone beside None y = alone y
+wrong_next alone beside (Some x) y = cond (same x.root y.root) (not (beside x y)) (alone y)

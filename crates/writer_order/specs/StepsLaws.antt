@@ -1,15 +1,14 @@
 -- Neighbours one after the other, as a loop over positions meets them.
 -- Assumes nothing.
-use Rattle.std.specs.Prelude.{◌≡◌, Bool, true, false, cond, ◌||◌, not, List, [], ◌∷◌, map, ℕ, ◌+◌, ◌-◌, ◌≤◌, ◌<◌, length, get_or, drop, ltb}
+use Rattle.std.specs.Prelude.{◌≡◌, Bool, true, false, ◌||◌, not, List, [], ◌∷◌, map, ℕ, ◌+◌, ◌-◌, ◌≤◌, ◌<◌, length, get_or, drop, ltb, Option, Some, None}
 use Rattle.std.proofs.Math.Path.{refl}
 use Rattle.std.proofs.Common.{sym, ap, ap₂, ◌∙◌, arith, drop_of_length-le, length-drop}
-use Rattle.std.proofs.lemmas.Bool.{false≢true}
 use Rattle.octets.specs.Octets.{number_at}
 use Rattle.octets.specs.OctetsLaws.{drop_step}
 use Rattle.writer_meaning.specs.Content.{Item}
 use Rattle.writer_lists.specs.Lists.{item_at}
 use Rattle.writer_order.specs.Order.{InForm}
-use Rattle.writer_order.specs.Neighbours.{followed, neighbours, run_from, runs, full_ones, agree, first_wrong, wrong_next, clash}
+use Rattle.writer_order.specs.Neighbours.{followed, neighbours, run_from, runs, full_ones, wrong_next, clash_by}
 
 -- ---- neighbours
 
@@ -50,89 +49,84 @@ module _ {A : Type 0} (test : A → A → Bool) (f : ℕ → A) (at : List ℕ) 
 
 -- ---- runs
 
--- what is left of the runs: behind the last file that was not empty, if there was one
-unfoldable pub runs_left : Bool → ℕ → Bool → Item → List Item → Bool
-runs_left layers plen seen x ys =
-    cond seen (run_from (first_wrong layers plen) (λ (u v : Item). not (agree layers u v)) x (full_ones ys))
-    (runs (first_wrong layers plen) (λ (u v : Item). not (agree layers u v)) (full_ones ys))
+-- the file of the record that was seen last, if one was, and its form
+abbrev pub file_of : List ℕ → List ℕ → Option ℕ → Option Item
+file_of list text None = None
+file_of list text (Some p) = Some (item_at list text p)
 
-left_none : (layers : Bool) (plen : ℕ) (seen : Bool) (x : Item) → runs_left layers plen seen x [] ≡ false
-unfolding runs_left full_ones run_from runs
-left_none layers plen true x = refl
-left_none layers plen false x = refl
+abbrev pub Seen : List ℕ → List ℕ → Option ℕ → Type 0
+Seen list text last = (p : ℕ) → last ≡ Some p → InForm list text p
 
-left_empty : (layers : Bool) (plen : ℕ) (seen : Bool) (x y : Item) (ys : List Item) → ltb 0 y.size ≡ false
-    → runs_left layers plen seen x (y ∷ ys) ≡ runs_left layers plen seen x ys
-unfolding runs_left full_ones
-left_empty layers plen seen x y ys e = rw e refl
+module _ (alone : Item → Bool) (beside : Item → Item → Bool) where
+  -- what is left of the runs: behind the last file that was not empty, if there was one
+  unfoldable pub runs_left : Option Item → List Item → Bool
+  runs_left None ys = runs alone (λ (u v : Item). not (beside u v)) (full_ones ys)
+  runs_left (Some x) ys = run_from alone (λ (u v : Item). not (beside u v)) x (full_ones ys)
 
-left_full : (layers : Bool) (plen : ℕ) (seen : Bool) (x y : Item) (ys : List Item) → ltb 0 y.size ≡ true
-    → runs_left layers plen seen x (y ∷ ys) ≡ wrong_next layers plen seen x y || runs_left layers plen true y ys
-unfolding runs_left full_ones run_from runs
-left_full layers plen true x y ys e = rw e refl
-left_full layers plen false x y ys e = rw e refl
+  left_none : (last : Option Item) → runs_left last [] ≡ false
+  unfolding runs_left full_ones run_from runs
+  left_none None = refl
+  left_none (Some x) = refl
 
-pub record Clashing (list text : List ℕ) (plen : ℕ) (layers : Bool) (at : List ℕ) (seen : Bool) (last i : ℕ) : Type 0 where
-  pub within : i ≤ length at
-  pub last_there : seen ≡ true → InForm list text last
-  pub whole : clash layers plen (map (item_at list text) at) ≡ runs_left layers plen seen (item_at list text last)
-      (map (item_at list text) (drop i at))
+  left_empty : (last : Option Item) (y : Item) (ys : List Item) → ltb 0 y.size ≡ false → runs_left last (y ∷ ys) ≡ runs_left last ys
+  unfolding runs_left full_ones
+  left_empty None y ys e = rw e refl
+  left_empty (Some x) y ys e = rw e refl
 
-module _ (list text : List ℕ) (plen : ℕ) (layers : Bool) (at : List ℕ) where
-  pub clashing_start : (last : ℕ) → Clashing list text plen layers at false last 0
-  unfolding clash runs_left
-  clashing_start last = record { within = omega arith; last_there = λ e. absurd (false≢true e); whole = refl }
+  left_full : (last : Option Item) (y : Item) (ys : List Item) → ltb 0 y.size ≡ true
+      → runs_left last (y ∷ ys) ≡ wrong_next alone beside last y || runs_left (Some y) ys
+  unfolding runs_left full_ones run_from runs
+  left_full None y ys e = rw e refl
+  left_full (Some x) y ys e = rw e refl
 
-  module _ (seen : Bool) (last i : ℕ) (c : Clashing list text plen layers at seen last i) where
-    pub clashing_end : length at ≤ i → clash layers plen (map (item_at list text) at) ≡ false
+module _ (list text : List ℕ) (alone : Item → Bool) (beside : Item → Item → Bool) (at : List ℕ) where
+  abbrev pub Clashing : Option ℕ → ℕ → Type 0
+  Clashing last i =
+      clash_by alone beside (map (item_at list text) at)
+      ≡ runs_left alone beside (file_of list text last) (map (item_at list text) (drop i at))
+
+  pub clashing_start : Clashing None 0
+  unfolding clash_by runs_left
+  clashing_start = refl
+
+  module _ (last : Option ℕ) (i : ℕ) (c : Clashing last i) where
+    pub clashing_end : length at ≤ i → clash_by alone beside (map (item_at list text) at) ≡ false
     clashing_end h =
-        c.whole
-        ∙ ap (λ (l : List ℕ). runs_left layers plen seen (item_at list text last) (map (item_at list text) l)) (drop_of_length-le at {i = i} h)
-        ∙ left_none layers plen seen (item_at list text last)
+        c
+        ∙ ap (λ (l : List ℕ). runs_left alone beside (file_of list text last) (map (item_at list text) l)) (drop_of_length-le at {i = i} h)
+        ∙ left_none alone beside (file_of list text last)
 
     module _ (h : i < length at) (p : ℕ) (e : p ≡ get_or at i 0) where
-      here : clash layers plen (map (item_at list text) at) ≡ runs_left layers plen seen (item_at list text last)
+      here : clash_by alone beside (map (item_at list text) at) ≡ runs_left alone beside (file_of list text last)
           (item_at list text p ∷ map (item_at list text) (drop (i + 1) at))
       here =
-          c.whole
-          ∙ ap (λ (l : List ℕ). runs_left layers plen seen (item_at list text last) (map (item_at list text) l))
+          c
+          ∙ ap (λ (l : List ℕ). runs_left alone beside (file_of list text last) (map (item_at list text) l))
           (drop_step at i h ∙ ap (λ (k : ℕ). k ∷ drop (i + 1) at) (sym e))
 
       size_is : (t : Bool) → ltb 0 (number_at list p 8) ≡ t → ltb 0 (item_at list text p).size ≡ t
       unfolding item_at
       size_is t q = q
 
-      pub clashing_empty : ltb 0 (number_at list p 8) ≡ false → Clashing list text plen layers at seen last (i + 1)
+      pub clashing_empty : ltb 0 (number_at list p 8) ≡ false → Clashing last (i + 1)
       clashing_empty q =
-          record {
-            within = omega arith;
-            last_there = c.last_there;
-            whole =
-                here
-                ∙ left_empty layers plen seen (item_at list text last) (item_at list text p) (map (item_at list text) (drop (i + 1) at))
-                (size_is false q);
-          }
+          here
+          ∙ left_empty alone beside (file_of list text last) (item_at list text p) (map (item_at list text) (drop (i + 1) at))
+          (size_is false q)
 
       module _ (q : ltb 0 (number_at list p 8) ≡ true) where
-        full : clash layers plen (map (item_at list text) at) ≡ wrong_next layers plen seen (item_at list text last) (item_at list text p) ||
-            runs_left layers plen true (item_at list text p) (map (item_at list text) (drop (i + 1) at))
+        full : clash_by alone beside (map (item_at list text) at) ≡ wrong_next alone beside (file_of list text last) (item_at list text p) ||
+            runs_left alone beside (Some (item_at list text p)) (map (item_at list text) (drop (i + 1) at))
         full =
             here
-            ∙ left_full layers plen seen (item_at list text last) (item_at list text p) (map (item_at list text) (drop (i + 1) at))
+            ∙ left_full alone beside (file_of list text last) (item_at list text p) (map (item_at list text) (drop (i + 1) at))
             (size_is true q)
 
-        pub clashing_stop : wrong_next layers plen seen (item_at list text last) (item_at list text p) ≡ true
-            → clash layers plen (map (item_at list text) at) ≡ true
+        pub clashing_stop : wrong_next alone beside (file_of list text last) (item_at list text p) ≡ true
+            → clash_by alone beside (map (item_at list text) at) ≡ true
         clashing_stop w =
-            full ∙ ap (λ (t : Bool). t || runs_left layers plen true (item_at list text p) (map (item_at list text) (drop (i + 1) at))) w
+            full ∙ ap (λ (t : Bool). t || runs_left alone beside (Some (item_at list text p)) (map (item_at list text) (drop (i + 1) at))) w
 
-        pub clashing_on : wrong_next layers plen seen (item_at list text last) (item_at list text p) ≡ false → InForm list text p
-            → Clashing list text plen layers at true p (i + 1)
-        clashing_on w f =
-            record {
-              within = omega arith;
-              last_there = λ _. f;
-              whole =
-                  full
-                  ∙ ap (λ (t : Bool). t || runs_left layers plen true (item_at list text p) (map (item_at list text) (drop (i + 1) at))) w;
-            }
+        pub clashing_on : wrong_next alone beside (file_of list text last) (item_at list text p) ≡ false → Clashing (Some p) (i + 1)
+        clashing_on w =
+            full ∙ ap (λ (t : Bool). t || runs_left alone beside (Some (item_at list text p)) (map (item_at list text) (drop (i + 1) at))) w

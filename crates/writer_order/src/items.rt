@@ -1,10 +1,10 @@
 // What a file alone may have wrong: a path too deep (21), a wrong path, length or root (25), a layer of a wrong size (27).
-ghost use Rattle.std.specs.Prelude.{◌≡◌, true, not, List, ℕ, ◌+◌, ◌≤◌, length};
+ghost use Rattle.std.specs.Prelude.{◌≡◌, Bool, true, not, List, ℕ, ◌+◌, ◌≤◌, length};
 ghost use Rattle.meaning.specs.Torrent.{element_right};
+ghost use Rattle.writer_meaning.specs.Content.{Item};
 ghost use Rattle.writer_meaning.specs.Number.{some, too_deep, wrong_item, misfit};
 ghost use Rattle.writer_lists.specs.Lists.{elements_fit, elements_in, item_at, list_form, content_of};
 ghost use Rattle.writer_order.specs.Order.{InForm};
-ghost use Rattle.writer_order.specs.Items.{fails};
 
 use bencode::order::same;
 use filetree::element::element_right;
@@ -19,6 +19,7 @@ fn depth(path: &[u8]) -> usize
 {
     let mut n = 0;
     let mut at = 0;
+    // A `while`: the position moves by what was read there.
     while at < path.len() {
         let m = number_at(path, at, 4);
         at = at + 4 + m;
@@ -33,6 +34,7 @@ fn wrong_element(path: &[u8]) -> bool
     ensures { result ≡ some (λ (e : List ℕ). not (element_right e)) (elements_in (length path.now) path.now) }
 {
     let mut at = 0;
+    // A `while`: the position moves by what was read there.
     while at < path.len() {
         let m = number_at(path, at, 4);
         let start = at + 4;
@@ -45,7 +47,7 @@ fn wrong_element(path: &[u8]) -> bool
 }
 
 // 21: whether the path of the file of the record at p is too deep.
-fn too_deep(list: &[u8], text: &[u8], p: usize) -> bool
+pub fn too_deep(list: &[u8], text: &[u8], p: usize) -> bool
     requires { InForm list.now text.now p }
     ensures { result ≡ too_deep (item_at list.now text.now p) }
 {
@@ -56,7 +58,7 @@ fn too_deep(list: &[u8], text: &[u8], p: usize) -> bool
 }
 
 // 25: whether its path, its length or its root is wrong.
-fn wrong_item(list: &[u8], text: &[u8], p: usize) -> bool
+pub fn wrong_item(list: &[u8], text: &[u8], p: usize) -> bool
     requires { InForm list.now text.now p }
     ensures { result ≡ wrong_item (item_at list.now text.now p) }
 {
@@ -84,7 +86,7 @@ fn wrong_item(list: &[u8], text: &[u8], p: usize) -> bool
 }
 
 // 27: whether its layer has a wrong size.
-fn misfits(list: &[u8], text: &[u8], plen: usize, p: usize) -> bool
+pub fn misfits(list: &[u8], text: &[u8], plen: usize, p: usize) -> bool
     requires { InForm list.now text.now p }
     ensures { result ≡ misfit plen (item_at list.now text.now p) }
 {
@@ -100,38 +102,18 @@ fn misfits(list: &[u8], text: &[u8], plen: usize, p: usize) -> bool
     m / 32 != pieces
 }
 
-// One of the three tests.
-#[derive(Clone, Copy)]
-pub enum Test {
-    Deep,
-    Wrong,
-    Layer,
-}
-
-// Whether the file of the record at p does not pass a test.
-fn failing(list: &[u8], text: &[u8], plen: usize, test: Test, p: usize) -> bool
-    requires { InForm list.now text.now p }
-    ensures { result ≡ fails plen test (item_at list.now text.now p) }
-{
-    match test {
-        Test::Deep => too_deep(list, text, p),
-        Test::Wrong => wrong_item(list, text, p),
-        Test::Layer => misfits(list, text, plen, p),
-    }
-}
-
-// Whether one of a list's files does not.
-pub fn one_fails(list: &[u8], text: &[u8], plen: usize, test: Test) -> bool
-    requires { list_form list.now text.now ≡ true }
-    ensures { result ≡ some (fails plen test) (content_of list.now text.now) }
+// Whether one of a list's files fails a test, which is given the position of its record.
+pub fn one_fails<F: Fn(usize) -> bool>(list: &[u8], text: &[u8], fails: F) -> bool
+    requires { (list_form list.now text.now ≡ true) × ((p : ℕ) → InForm list.now text.now p → F.pre fails p) }
+    ensures { (test : Item → Bool)
+        → ((p : ℕ) (r : Bool) → InForm list.now text.now p → F.post fails p r → r ≡ test (item_at list.now text.now p))
+        → result ≡ some test (content_of list.now text.now) }
 {
     let n = list.len() / writer_lists::form::RECORD;
-    let mut i = 0;
-    while i < n {
-        if failing(list, text, plen, test, writer_lists::form::RECORD * i) {
+    for i in 0..n {
+        if fails(writer_lists::form::RECORD * i) {
             return true;
         }
-        i += 1;
     }
     false
 }

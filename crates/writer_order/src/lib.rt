@@ -6,4 +6,4 @@ pub mod compare;
 pub mod items;
 pub mod meet;
 pub mod number;
-pub mod sort;
+pub mod places;

@@ -1,13 +1,11 @@
 -- How long the parts can get: no sum of sizes leaves 64 bits.
 -- Assumes nothing.
-use Rattle.std.specs.Prelude.{◌≡◌, Bool, true, cond, ◌&&◌, ℕ, zero, suc, ◌+◌, ◌-◌, ◌*◌, ◌/◌, ◌%◌, ◌^◌, ◌≤◌, ◌<◌, drop, get_or, eqb, ltb, leb}
+use Rattle.std.specs.Prelude.{◌≡◌, Bool, true, cond, ◌&&◌, ℕ, zero, suc, ◌+◌, ◌-◌, ◌*◌, ◌/◌, ◌%◌, ◌^◌, ◌≤◌, ◌<◌, drop, get_or, eqb, ltb, leb, List, [], ◌∷◌, ◌++◌, map}
 use Rattle.std.proofs.Math.Path.{refl}
-use Rattle.std.proofs.Common.{sym, ap, ◌∙◌, inl, inr, pow-suc, add-one}
+use Rattle.std.proofs.Common.{sym, ap, ◌∙◌, inl, inr, pow-suc, add-one, arith, eqb-true, ltb-false, leb-true}
 use Rattle.std.proofs.Math.Bool.{false, and-eq-true_iff}
-use mathlib.Core.List.{List, [], ◌∷◌, ◌++◌, map}
-use native.Mathlib.Omega.{arith}
 use Rattle.std.proofs.Math.ListN.{length, length-append, length-drop, length-replicate}
-use borrow.Author.Tests.{eqb-true, eqb-false, ltb-false, leb-true}
+use Rattle.std.proofs.lemmas.Bool.{eqb-false}
 use Rattle.octets.specs.Octets.{cut, number_at}
 use Rattle.octets.specs.OctetsLaws.{cut_size}
 use Rattle.octets.proofs.Digits.{digit_below}

@@ -1,6 +1,6 @@
 -- What is written from left to right is the encoding of the layers, and one record after the other gives it.
 -- Assumes nothing.
-use Rattle.std.specs.Prelude.{◌≡◌, Bool, true, false, cond, ◌&&◌, List, [], ◌∷◌, ◌++◌, map, ℕ, ◌+◌, ◌-◌, ◌^◌, ◌≤◌, ◌<◌, length, take, drop, get_or, ltb}
+use Rattle.std.specs.Prelude.{◌≡◌, Bool, true, false, cond, ◌&&◌, List, [], ◌∷◌, ◌++◌, map, ℕ, ◌+◌, ◌-◌, ◌^◌, ◌≤◌, ◌<◌, length, take, drop, get_or, ltb, Option, Some, None}
 use Rattle.std.proofs.Math.Path.{refl}
 use Rattle.std.proofs.Common.{sym, ap, ap₂, ◌∙◌, subst, append_assoc, arith, add-one, length-append, drop_of_length-le, drop-cons}
 use Rattle.std.proofs.Math.Bool.{and-eq-true_iff}
@@ -15,7 +15,7 @@ use Rattle.writer_order.specs.OrderLaws.{placed_index}
 use Rattle.writer_order.specs.CompareLaws.{root_slice}
 use Rattle.writer_output.specs.Put.{Put}
 use Rattle.writer_output.specs.PutLaws.{put_none, put_append, Going, going_start, going_more, going_last, going_room}
-use Rattle.writer_output.specs.Layers.{repeats, layer_entry, layers_bytes, layer_of, root_seen}
+use Rattle.writer_output.specs.Layers.{repeats, layer_entry, layers_bytes, layer_of, root_seen, Inside}
 
 -- ---- the encoding
 
@@ -87,12 +87,12 @@ unfolding cut
 cut_slice list place = let z : place + 40 - (place + 8) ≡ 32 = omega arith in rw z refl
 
 -- a root was seen: the two roots are compared
-pub root_compared : (list : List ℕ) (place last : ℕ) (seen t : Bool) → seen ≡ true
-    → t ≡ same (take (last + 40 - (last + 8)) (drop (last + 8) list)) (take (place + 40 - (place + 8)) (drop (place + 8) list))
-    → t ≡ repeats (root_seen list seen last) (cut list (place + 8) 32)
-root_compared list place last seen t s e = e ∙ ap₂ same (cut_slice list last) (cut_slice list place) ∙ sym (rw s refl)
+pub root_compared : (list : List ℕ) (place p : ℕ) (t : Bool)
+    → t ≡ same (take (p + 40 - (p + 8)) (drop (p + 8) list)) (take (place + 40 - (place + 8)) (drop (place + 8) list))
+    → t ≡ repeats (root_seen list (Some p)) (cut list (place + 8) 32)
+root_compared list place p t e = e ∙ ap₂ same (cut_slice list p) (cut_slice list place)
 
-module _ (list text : List ℕ) (place last : ℕ) (seen : Bool) where
+module _ (list text : List ℕ) (place : ℕ) (last : Option ℕ) where
   abbrev x : Item
   x = item_at list text place
 
@@ -100,18 +100,18 @@ module _ (list text : List ℕ) (place last : ℕ) (seen : Bool) where
   root_is = unfold item_at in refl
 
   -- the root repeats: nothing is written
-  pub put_repeated : (t : Bool) → t ≡ repeats (root_seen list seen last) (cut list (place + 8) 32) → t ≡ true → (s : List ℕ) (at : ℕ)
-      → Put s at (layer_entry (root_seen list seen last) (layer_of (item_at list text place))) s at
-  put_repeated t e f s at = rw (sym (ap (repeats (root_seen list seen last)) root_is) ∙ sym e ∙ f) (put_none s at)
+  pub put_repeated : (t : Bool) → t ≡ repeats (root_seen list last) (cut list (place + 8) 32) → t ≡ true → (s : List ℕ) (at : ℕ)
+      → Put s at (layer_entry (root_seen list last) (layer_of (item_at list text place))) s at
+  put_repeated t e f s at = rw (sym (ap (repeats (root_seen list last)) root_is) ∙ sym e ∙ f) (put_none s at)
 
   -- it does not: both strings are
-  entry_new : (t : Bool) → t ≡ repeats (root_seen list seen last) (cut list (place + 8) 32) → t ≡ false
-      → layer_entry (root_seen list seen last) (layer_of (item_at list text place)) ≡ encode_string (item_at list text place).root ++
+  entry_new : (t : Bool) → t ≡ repeats (root_seen list last) (cut list (place + 8) 32) → t ≡ false
+      → layer_entry (root_seen list last) (layer_of (item_at list text place)) ≡ encode_string (item_at list text place).root ++
       encode_string (item_at list text place).layer
-  entry_new t e f = rw (sym (ap (repeats (root_seen list seen last)) root_is) ∙ sym e ∙ f) refl
+  entry_new t e f = rw (sym (ap (repeats (root_seen list last)) root_is) ∙ sym e ∙ f) refl
 
-  pub entry_length : (t : Bool) → t ≡ repeats (root_seen list seen last) (cut list (place + 8) 32) → t ≡ false
-      → length (layer_entry (root_seen list seen last) (layer_of (item_at list text place))) ≡ length
+  pub entry_length : (t : Bool) → t ≡ repeats (root_seen list last) (cut list (place + 8) 32) → t ≡ false
+      → length (layer_entry (root_seen list last) (layer_of (item_at list text place))) ≡ length
       (encode_string (take (place + 40 - (place + 8)) (drop (place + 8) list))) + length (encode_string (item_at list text place).layer)
   entry_length t e f =
       ap (λ (l : List ℕ). length l) (entry_new t e f)
@@ -119,11 +119,11 @@ module _ (list text : List ℕ) (place last : ℕ) (seen : Bool) where
       ∙ ap (λ (l : List ℕ). length (encode_string l) + length (encode_string (item_at list text place).layer))
       (sym (root_slice list text place))
 
-  pub put_entry : (t : Bool) → t ≡ repeats (root_seen list seen last) (cut list (place + 8) 32) → t ≡ false → (layer : List ℕ)
+  pub put_entry : (t : Bool) → t ≡ repeats (root_seen list last) (cut list (place + 8) 32) → t ≡ false → (layer : List ℕ)
       → layer ≡ (item_at list text place).layer
       → (s u v : List ℕ) (at m r : ℕ) → Put s at (encode_string (take (place + 40 - (place + 8)) (drop (place + 8) list))) u m
       → Put u m (encode_string layer) v r → length u ≡ length s
-      → Put s at (layer_entry (root_seen list seen last) (layer_of (item_at list text place))) v r
+      → Put s at (layer_entry (root_seen list last) (layer_of (item_at list text place))) v r
   put_entry t e f layer g s u v at m r p q k =
       rw (entry_new t e f)
       (put_append s u v at m r (encode_string (item_at list text place).root) (encode_string (item_at list text place).layer)
@@ -133,18 +133,21 @@ module _ (list text : List ℕ) (place last : ℕ) (seen : Bool) where
 
 -- ---- all entries
 
--- i records are passed; the last entry has the root of the record at `last`
-pub record Listing (s : List ℕ) (at : ℕ) (list text order t : List ℕ) (now : ℕ) (seen : Bool) (last i : ℕ) : Type 0 where
-  pub counted : i ≤ length order
-  pub inside : last ≤ length list - record_size
-  pub going : Going s at (layers_bytes none (layers_given (map (item_at list text) order)))
-      (layers_bytes (root_seen list seen last) (layers_given (map (item_at list text) (drop i order)))) t now
+some_is : {p q : ℕ} → ◌≡◌ {A = Option ℕ} (Some p) (Some q) → p ≡ q
+some_is e = cc
 
-pub listing_start : (s : List ℕ) (at : ℕ) (list text order : List ℕ) → Listing s at list text order s at false 0 0
+-- i records are passed; the last entry has the root of the record at `last`
+pub record Listing (s : List ℕ) (at : ℕ) (list text order t : List ℕ) (now : ℕ) (last : Option ℕ) (i : ℕ) : Type 0 where
+  pub counted : i ≤ length order
+  pub inside : Inside list last
+  pub going : Going s at (layers_bytes none (layers_given (map (item_at list text) order)))
+      (layers_bytes (root_seen list last) (layers_given (map (item_at list text) (drop i order)))) t now
+
+pub listing_start : (s : List ℕ) (at : ℕ) (list text order : List ℕ) → Listing s at list text order s at None 0
 listing_start s at list text order =
     record {
       counted = omega arith;
-      inside = omega arith;
+      inside = λ p e. cc;
       going = going_start s at
           (layers_bytes none (layers_given (map (item_at list text) order)));
     }
@@ -166,8 +169,8 @@ given_some x xs e = by_layer x.layer refl e
     by_layer (b ∷ bs) p q = ap (λ (l : List ℕ). (x.root, l) ∷ layers_given xs) (sym p)
 
 -- the next record
-module _ {s : List ℕ} {at : ℕ} {list text order t : List ℕ} {now : ℕ} {seen : Bool} {last i : ℕ}
-    (g : Listing s at list text order t now seen last i) (h : i < length order) (f : AllInForm list text order) (place : ℕ)
+module _ {s : List ℕ} {at : ℕ} {list text order t : List ℕ} {now : ℕ} {last : Option ℕ} {i : ℕ}
+    (g : Listing s at list text order t now last i) (h : i < length order) (f : AllInForm list text order) (place : ℕ)
     (e : place ≡ get_or order i 0)
     (b : ℕ) (eb : b ≡ number_at list (place + 40 + 4) 4) where
   has_form : InForm list text place
@@ -180,14 +183,14 @@ module _ {s : List ℕ} {at : ℕ} {list text order t : List ℕ} {now : ℕ} {s
   size_is = layer_length list text place (number_at list (place + 40) 4) b has_form refl eb
 
   -- it has no layer
-  pub listing_skip : b ≡ 0 → Listing s at list text order t now seen last (i + 1)
+  pub listing_skip : b ≡ 0 → Listing s at list text order t now last (i + 1)
   listing_skip z =
       record {
         counted = omega arith;
         inside = g.inside;
         going =
             subst (λ (ls : List Layer). Going s at (layers_bytes none (layers_given (map (item_at list text) order)))
-            (layers_bytes (root_seen list seen last) ls) t now)
+            (layers_bytes (root_seen list last) ls) t now)
             (ap (λ (l : List ℕ). layers_given (map (item_at list text) l)) rest ∙ given_none (item_at list text place)
             (map (item_at list text) (drop (i + 1) order)) (size_is ∙ z))
             g.going;
@@ -199,45 +202,42 @@ module _ {s : List ℕ} {at : ℕ} {list text order t : List ℕ} {now : ℕ} {s
     later = layers_bytes (after (item_at list text place).root) (layers_given (map (item_at list text) (drop (i + 1) order)))
 
     next_layer : Going s at (layers_bytes none (layers_given (map (item_at list text) order)))
-        (layer_entry (root_seen list seen last) (layer_of (item_at list text place)) ++ later) t now
+        (layer_entry (root_seen list last) (layer_of (item_at list text place)) ++ later) t now
     next_layer =
         subst (λ (l : List ℕ). Going s at (layers_bytes none (layers_given (map (item_at list text) order))) l t now)
-        (ap (layers_bytes (root_seen list seen last))
+        (ap (layers_bytes (root_seen list last))
         (ap (λ (l : List ℕ). layers_given (map (item_at list text) l)) rest ∙ given_some (item_at list text place)
         (map (item_at list text) (drop (i + 1) order)) (λ q. z (sym size_is ∙ q)))
         ∙ (unfold layers_bytes in refl))
         g.going
 
     pub layer_room : (n : ℕ) → at + length (layers_bytes none (layers_given (map (item_at list text) order))) < n
-        → now + length (layer_entry (root_seen list seen last) (layer_of (item_at list text place))) < n
+        → now + length (layer_entry (root_seen list last) (layer_of (item_at list text place))) < n
     layer_room n l =
         going_room s at (layers_bytes none (layers_given (map (item_at list text) order)))
-        (layer_entry (root_seen list seen last) (layer_of (item_at list text place))) later t now n next_layer l
+        (layer_entry (root_seen list last) (layer_of (item_at list text place))) later t now n next_layer l
 
-    pub last_inside : last + record_size ≤ length list
-    last_inside = let w = has_form.0 in let v = g.inside in omega arith
-
-    pub listing_more : (u : List ℕ) (r : ℕ) → Put t now (layer_entry (root_seen list seen last) (layer_of (item_at list text place))) u r
-        → length u ≡ length t → Listing s at list text order u r true place (i + 1)
+    pub listing_more : (u : List ℕ) (r : ℕ) → Put t now (layer_entry (root_seen list last) (layer_of (item_at list text place))) u r
+        → length u ≡ length t → Listing s at list text order u r (Some place) (i + 1)
     listing_more u r p k =
         record {
           counted = omega arith;
-          inside = let w = has_form.0 in omega arith;
+          inside = λ p q. subst (λ (n : ℕ). n + record_size ≤ length list) (some_is q) has_form.0;
           going =
               subst (λ (k : List ℕ). Going s at (layers_bytes none (layers_given (map (item_at list text) order)))
               (layers_bytes (after k) (layers_given (map (item_at list text) (drop (i + 1) order)))) u r)
-              (sym (root_is list text place last seen))
+              (sym (root_is list text place last))
               (going_more s at (layers_bytes none (layers_given (map (item_at list text) order)))
-              (layer_entry (root_seen list seen last) (layer_of (item_at list text place))) later t u now r next_layer p k);
+              (layer_entry (root_seen list last) (layer_of (item_at list text place))) later t u now r next_layer p k);
         }
 
 -- all records are passed
-module _ {s : List ℕ} {at : ℕ} {list text order t : List ℕ} {now : ℕ} {seen : Bool} {last i : ℕ}
-    (g : Listing s at list text order t now seen last i) (h : length order ≤ i) where
+module _ {s : List ℕ} {at : ℕ} {list text order t : List ℕ} {now : ℕ} {last : Option ℕ} {i : ℕ}
+    (g : Listing s at list text order t now last i) (h : length order ≤ i) where
   last_byte : Going s at (layers_bytes none (layers_given (map (item_at list text) order))) ((letter_e ∷ []) ++ []) t now
   last_byte =
       subst (λ (l : List ℕ). Going s at (layers_bytes none (layers_given (map (item_at list text) order))) l t now)
-      (ap (λ (l : List ℕ). layers_bytes (root_seen list seen last) (layers_given (map (item_at list text) l)))
+      (ap (λ (l : List ℕ). layers_bytes (root_seen list last) (layers_given (map (item_at list text) l)))
       (drop_of_length-le order {i = i} h) ∙ (unfold layers_given layers_bytes in refl))
       g.going
 

@@ -1,11 +1,9 @@
 -- A path walked element by element, and two paths side by side.
 -- Assumes nothing.
-use Rattle.std.specs.Prelude.{◌≡◌, Bool, true, false, cond, ◌&&◌, ℕ, zero, suc, ◌+◌, ◌-◌, ◌≤◌, ◌<◌, eqb, leb}
+use Rattle.std.specs.Prelude.{◌≡◌, Bool, true, false, cond, ◌&&◌, ℕ, zero, suc, ◌+◌, ◌-◌, ◌≤◌, ◌<◌, eqb, leb, List, [], ◌∷◌, ◌++◌}
 use Rattle.std.proofs.Math.Path.{refl, sym, ap}
-use Rattle.std.proofs.Common.{◌∙◌, subst, length-drop, drop-drop, eqb-true, leb-true}
+use Rattle.std.proofs.Common.{◌∙◌, subst, length-drop, drop-drop, eqb-true, leb-true, arith}
 use Rattle.std.proofs.Math.Bool.{and-eq-true_iff}
-use mathlib.Core.List.{List, [], ◌∷◌, ◌++◌}
-use native.Mathlib.Omega.{arith}
 use Rattle.std.proofs.Math.ListN.{length, take, drop}
 use Rattle.std.proofs.lemmas.List.{length-replicate}
 use Rattle.octets.specs.Octets.{cut, same, number_at}

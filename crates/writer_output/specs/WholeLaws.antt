@@ -1,9 +1,8 @@
 -- The two parts are the torrent's encoding; more files than `most_files` make it too large.
 -- Assumes nothing.
-use Rattle.std.specs.Prelude.{◌≡◌, true, false, ℕ, ◌+◌, ◌-◌, ◌*◌, ◌≤◌, ◌<◌, length, drop}
+use Rattle.std.specs.Prelude.{◌≡◌, true, false, ℕ, ◌+◌, ◌-◌, ◌*◌, ◌≤◌, ◌<◌, length, drop, List, [], ◌∷◌, ◌++◌}
 use Rattle.std.proofs.Math.Path.{refl, sym, ap}
-use Rattle.std.proofs.Common.{ap₂, ◌∙◌, arith, length-append, lt-ltb}
-use mathlib.Core.List.{List, [], ◌∷◌, ◌++◌, append_assoc}
+use Rattle.std.proofs.Common.{ap₂, ◌∙◌, arith, length-append, lt-ltb, append_assoc}
 use Rattle.limits.specs.Limits.{largest_torrent}
 use Rattle.bencode.specs.Grammar.{letter_d, letter_e, letter_i, decimal, decimal_in, encode_string, dictionary, Entries, no_entries, entry, encode, encode_entries}
 use Rattle.bencode.specs.Grammar as G

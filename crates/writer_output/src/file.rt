@@ -11,7 +11,7 @@ ghost use Rattle.writer_output.specs.Files.{properties_bytes, file_in};
 use crate::path::{put_closed, put_opened, shared_end};
 use crate::plain::{put_byte, put_bytes, put_decimal, put_string};
 use octets::number_at;
-use writer_order::compare::index;
+use sorting::index;
 
 // The empty key and a file's properties: its length, and its root if it is not empty.
 fn put_properties(out: &mut [u8], at: usize, size: usize, root: &[u8]) -> usize
@@ -53,8 +53,7 @@ pub fn put_tree(out: &mut [u8], at: usize, list: &[u8], text: &[u8], order: &[u3
     let mut to = at;
     let mut start = 0;
     let mut size = 0;
-    let mut i = 0;
-    while i < order.len() {
+    for i in 0..order.len() {
         let place = index(order[i]);
         let s = number_at(list, place + 48, 4);
         let m = number_at(list, place + 48 + 4, 4);
@@ -68,7 +67,6 @@ pub fn put_tree(out: &mut [u8], at: usize, list: &[u8], text: &[u8], order: &[u3
         );
         start = s;
         size = m;
-        i += 1;
     }
     let last = put_byte(out, to, b'e');
     put_closed(out, last, &text[start..start + size], 0)

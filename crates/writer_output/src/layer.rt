@@ -6,22 +6,22 @@ ghost use Rattle.writer_meaning.specs.Content.{layers_given};
 ghost use Rattle.writer_lists.specs.Lists.{record_size, item_at};
 ghost use Rattle.writer_output.specs.Put.{Put};
 ghost use Rattle.writer_order.specs.Order.{InForm, AllInForm};
-ghost use Rattle.writer_output.specs.Layers.{repeats, layer_entry, layers_bytes, layer_of, root_seen};
+ghost use Rattle.writer_output.specs.Layers.{repeats, layer_entry, layers_bytes, layer_of, root_seen, Inside};
 
 use crate::plain::{put_byte, put_string};
 use bencode::order::same;
 use octets::number_at;
-use writer_order::compare::index;
+use sorting::index;
 
-// Whether an entry was seen before, with the root of the record at `last`, and the record at `place` has the same.
-fn root_repeats(list: &[u8], place: usize, seen: bool, last: usize) -> bool
-    requires { (place + record_size ≤ length list.now) × (last + record_size ≤ length list.now) }
-    ensures { result ≡ repeats (root_seen list.now seen last) (cut list.now (place + 8) 32) }
+// Whether the record at `place` has the root of the record at `last`, which the entry before is of, if there was one.
+fn root_repeats(list: &[u8], place: usize, last: Option<usize>) -> bool
+    requires { (place + record_size ≤ length list.now) × Inside list.now last }
+    ensures { result ≡ repeats (root_seen list.now last) (cut list.now (place + 8) 32) }
 {
-    if seen {
-        return same(&list[last + 8..last + 40], &list[place + 8..place + 40]);
+    match last {
+        Some(p) => same(&list[p + 8..p + 40], &list[place + 8..place + 40]),
+        None => false,
     }
-    false
 }
 
 // The root and the layer of the record at `place`, unless the root repeats.
@@ -31,16 +31,15 @@ fn put_layer(
     list: &[u8],
     text: &[u8],
     place: usize,
-    seen: bool,
-    last: usize,
+    last: Option<usize>,
 ) -> usize
-    requires { InForm list.now text.now place × (last + record_size ≤ length list.now)
-        × (at + length (layer_entry (root_seen list.now seen last) (layer_of (item_at list.now text.now place))) < 2 ^ 64) }
+    requires { InForm list.now text.now place × Inside list.now last
+        × (at + length (layer_entry (root_seen list.now last) (layer_of (item_at list.now text.now place))) < 2 ^ 64) }
     ensures { Put out.old at
-        (layer_entry (root_seen list.now seen last) (layer_of (item_at list.now text.now place)))
+        (layer_entry (root_seen list.now last) (layer_of (item_at list.now text.now place)))
         out.new result }
 {
-    if root_repeats(list, place, seen, last) {
+    if root_repeats(list, place, last) {
         return at;
     }
     let start = number_at(list, place + 40, 4);
@@ -58,19 +57,14 @@ pub fn put_layers(out: &mut [u8], at: usize, list: &[u8], text: &[u8], order: &[
         out.new result }
 {
     let mut to = at;
-    let mut seen = false;
-    let mut last = 0;
-    let mut i = 0;
-    while i < order.len() {
+    let mut last = None;
+    for i in 0..order.len() {
         let place = index(order[i]);
-        i += 1;
         let size = number_at(list, place + 40 + 4, 4);
-        if size == 0 {
-            continue;
+        if size != 0 {
+            to = put_layer(out, to, list, text, place, last);
+            last = Some(place);
         }
-        to = put_layer(out, to, list, text, place, seen, last);
-        seen = true;
-        last = place;
     }
     put_byte(out, to, b'e')
 }

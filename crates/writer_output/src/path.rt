@@ -13,6 +13,7 @@ pub fn shared_end(one: &[u8], other: &[u8]) -> usize
     ensures { SharedTo one.now other.now result }
 {
     let mut at = 0;
+    // A `while`: the position moves by what was read there.
     while at < one.len() {
         if other.len() <= at {
             return at;
@@ -37,6 +38,7 @@ pub fn put_closed(out: &mut [u8], at: usize, path: &[u8], from: usize) -> usize
 {
     let mut to = at;
     let mut i = from;
+    // A `while`: the position moves by what was read there.
     while i < path.len() {
         let m = number_at(path, i, 4);
         to = put_byte(out, to, b'e');
@@ -52,6 +54,7 @@ pub fn put_opened(out: &mut [u8], at: usize, path: &[u8], from: usize) -> usize
 {
     let mut to = at;
     let mut i = from;
+    // A `while`: the position moves by what was read there.
     while i < path.len() {
         let m = number_at(path, i, 4);
         let start = i + 4;

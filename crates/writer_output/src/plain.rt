@@ -25,10 +25,9 @@ pub fn put_bytes(out: &mut [u8], at: usize, bytes: &[u8]) -> usize
     if out.len() < end {
         return end;
     }
-    let mut i = 0;
-    while i < n {
+    // A `for`: `copy_from_slice` is no inlined call, and most strings are short.
+    for i in 0..n {
         out[at + i] = bytes[i];
-        i += 1;
     }
     end
 }

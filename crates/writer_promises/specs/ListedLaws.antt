@@ -1,11 +1,9 @@
 -- Every content whose text stays below 4 GiB is that of a list in its form: record after record, each with its layer and its path behind the
 -- text so far.
 -- Assumes nothing.
-use Rattle.std.specs.Prelude.{◌≡◌, Bool, true, false, length, drop, ltb}
+use Rattle.std.specs.Prelude.{◌≡◌, Bool, true, false, length, drop, ltb, List, [], ◌∷◌, ◌++◌, ℕ, zero, suc, ◌+◌, ◌*◌, ◌^◌, ◌≤◌, ◌<◌}
 use Rattle.std.proofs.Math.Path.{refl, ap₂}
-use Rattle.std.proofs.Common.{sym, ap, ◌∙◌, subst, inl, inr, arith, div-add-mod', length-drop, length-append, ne_eqb, ltb-true, ltb-false}
-use mathlib.Core.List.{List, [], ◌∷◌, ◌++◌, append_assoc, append-nil}
-use Prim.Native.Nat.{ℕ, zero, suc, ◌+◌, ◌*◌, ◌^◌, ◌≤◌, ◌<◌}
+use Rattle.std.proofs.Common.{sym, ap, ◌∙◌, subst, inl, inr, arith, div-add-mod', length-drop, length-append, ne_eqb, ltb-true, ltb-false, append_assoc, append-nil}
 use Rattle.std.proofs.Math.ListN.{get_or-append}
 use Rattle.std.proofs.Math.Seq.{drop-append-add, drop-append_seam}
 use Rattle.octets.specs.Octets.{cut, be, number_at}

@@ -1,10 +1,9 @@
 -- What was written is read with the list's content; what is read can be written again; nothing shorter is read so.
 -- Assumes nothing.
-use Rattle.std.specs.Prelude.{◌≡◌, Bool, true, false, cond, ℕ, ◌+◌, ◌≤◌, ◌<◌, length, ltb}
+use Rattle.std.specs.Prelude.{◌≡◌, Bool, true, false, cond, ℕ, ◌+◌, ◌≤◌, ◌<◌, length, ltb, List, [], ◌∷◌, map}
 use Rattle.std.proofs.Math.Path.{refl, ap₂}
 use Rattle.std.proofs.Common.{sym, ap, ◌∙◌, subst, arith, lt-ltb, le-ltb, ltb-true, ltb-false}
 use Rattle.std.proofs.Math.Logic.{inl, inr}
-use mathlib.Core.List.{List, [], ◌∷◌, map}
 use Rattle.limits.specs.Limits.{largest_torrent, max_levels}
 use Rattle.tree.specs.Geometry.{has_layer}
 use Rattle.bencode.specs.Grammar.{string, dictionary, Entries, decimal_in, encode, Valid}

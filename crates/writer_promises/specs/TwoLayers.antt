@@ -1,13 +1,10 @@
 -- Two files of one length and one pieces root whose piece layers differ show two different strings of 64 bytes with one SHA-256: left child
 -- then right child of one and the same position, in the two files' trees.
 -- Assumes nothing.
-use Rattle.std.specs.Prelude.{◌≡◌, ◌⊎◌, Bool, true, false, length, take, drop}
+use Rattle.std.specs.Prelude.{◌≡◌, ◌⊎◌, Bool, true, false, length, take, drop, List, ◌++◌, ℕ, zero, suc, ◌+◌, ◌-◌, ◌*◌, ◌^◌, ◌≤◌, ◌<◌}
 use Rattle.std.proofs.Math.Path.{refl, sym, ap, ap₂}
-use Rattle.std.proofs.Common.{◌∙◌, inl, inr, take_at, drop_at}
-use mathlib.Core.List.{List, ◌++◌}
-use Prim.Native.Nat.{ℕ, zero, suc, ◌+◌, ◌-◌, ◌*◌, ◌^◌, ◌≤◌, ◌<◌}
+use Rattle.std.proofs.Common.{◌∙◌, inl, inr, take_at, drop_at, arith}
 use Rattle.std.proofs.Math.Nat.{pow-succ'}
-use native.Mathlib.Omega.{arith}
 use Rattle.std.proofs.Math.Decide.{dec_lt, ℕ_discrete}
 use Rattle.octets.specs.Octets.{Octets, same}
 use Rattle.octets.specs.OctetsLaws.{append_octets, same_true, same_false}

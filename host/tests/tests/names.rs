@@ -46,6 +46,15 @@ fn constants(path: &str) -> Names {
     parts.map(|(name, text)| (name.split(':').next().unwrap().to_string(), value(text))).collect()
 }
 
+/// `Name = value,` of an enum, as a constant's name.
+fn variants(path: &str, name: &str) -> Names {
+    let text = source(path);
+    let (_, cases) = text.split_once(&format!("\npub enum {name} {{\n")).unwrap();
+    let (cases, _) = cases.split_once("\n}").unwrap();
+    let parts = cases.lines().filter_map(|line| line.trim().strip_suffix(',')?.split_once(" = "));
+    parts.map(|(name, text)| (from_camel(name), value(text))).collect()
+}
+
 /// `name = value` of a spec, as a constant's name; a list of numbers is none.
 fn defined(path: &str) -> Names {
     let is_value = |text: &str| text.starts_with(|first: char| first.is_ascii_digit()) && !text.contains('∷');
@@ -139,7 +148,7 @@ fn the_limits_have_one_name_each() {
 fn the_ids_have_one_name_each() {
     let ids = constants("host/reference/src/ids.rs");
     assert_eq!(ids.len(), 13);
-    assert_eq!(constants("crates/frames/src/lib.rt"), ids);
+    assert_eq!(variants("crates/frames/src/lib.rt", "Id"), ids);
     assert_eq!(constants("host/kombudeva/src/ids.rs"), ids);
     let of_spec = defined("crates/frames/specs/Frames.antt").into_iter();
     assert_eq!(of_spec.map(|(name, id)| (name.trim_end_matches("_ID").to_string(), id)).collect::<Names>(), ids);

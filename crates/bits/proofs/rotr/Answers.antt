@@ -1,7 +1,9 @@
+use Rattle.std.proofs.Common.{arith, ◌≡◌, ◌-◌, ◌%◌}
 use Rattle.bits.specs.Words.{rotr}
-use Rattle.std.proofs.Common.{refl}
 use Rattle.bits.proofs.rotr.Goals as goal
 
 pub returns : goal.returns
 unfolding rotr
-returns c = refl
+returns c = let n : c.args.n % 32 ≡ c.args.n = omega arith in
+    let m : (32 - c.args.n) % 32 ≡ 32 - c.args.n = omega arith in
+    rw (n, m) at c.rotate_right.ensures

@@ -1,12 +1,10 @@
-use Rattle.bits.proofs.FourBytes.{four}
-use Rattle.bits.specs.Parsing.{word_at}
+use Rattle.std.specs.Int.{from_be_bytes, w32}
+use Rattle.std.proofs.Common.{take, ap, ◌∙◌}
+use Rattle.std.proofs.lemmas.List.{take_rest}
+use Rattle.bits.proofs.BytesOfAWord.{be_word}
 use Rattle.bits.proofs.word.Goals as goal
 
 pub returns : goal.returns
-unfolding word_at
-returns c = let a = c.wide in
-    let b = c.wide-2 in
-    let d = c.wide-3 in
-    let e = c.wide-4 in
-    let l = four a.result b.result d.result e.result a.ensures.1 b.ensures.1 d.ensures.1 e.ensures.1 in
-    cc
+returns c = let a = c.args in
+    let e = (rw c.unwrap.ensures at c.first_chunk.ensures.cases).same ∙ ap (take 4) (take_rest a.bytes.now a.index) in
+    c.from_be_bytes.ensures ∙ ap (from_be_bytes w32) e ∙ be_word a.bytes.now a.index

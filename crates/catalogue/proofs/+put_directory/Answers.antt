@@ -12,14 +12,14 @@ returns-then-levels-eq0 t c = puts_never _ _ _ _ _ _ _ c.requires.1.given
 pub loop-i-init : goal.loop-i-init
 loop-i-init t c = put_start c.if-levels-eq0.false c.requires.1
 
-pub shape_of-path-in-BadToken : goal.shape_of-path-in-BadToken
-shape_of-path-in-BadToken t c = (let it : length c.loop-i.path ≡ length c.args.path.now = c.loop-i.invariant.given.sized ∙ sym c.requires.1.given.sized in it)
+pub shape_of-path-in_err-read_token : goal.shape_of-path-in_err-read_token
+shape_of-path-in_err-read_token t c = (let it : length c.loop-i.path ≡ length c.args.path.now = c.loop-i.invariant.given.sized ∙ sym c.requires.1.given.sized in it)
 
-pub shape_of-out-in-BadToken : goal.shape_of-out-in-BadToken
-shape_of-out-in-BadToken t c = c.loop-i.invariant.sized
+pub shape_of-out-in_err-read_token : goal.shape_of-out-in_err-read_token
+shape_of-out-in_err-read_token t c = c.loop-i.invariant.sized
 
-pub returns-in-BadToken : goal.returns-in-BadToken
-returns-in-BadToken t c = puts_bad c.loop-i.invariant (sym c.in-BadToken.ensures)
+pub returns-in_err-read_token : goal.returns-in_err-read_token
+returns-in_err-read_token t c = rw c.from_residual.ensures (puts_bad c.loop-i.invariant (sym c.in_err-read_token.ensures))
 
 pub shape_of-path-in-Closed : goal.shape_of-path-in-Closed
 shape_of-path-in-Closed t c = (let it : length c.loop-i.path ≡ length c.args.path.now = c.loop-i.invariant.given.sized ∙ sym c.requires.1.given.sized in it)
@@ -28,7 +28,7 @@ pub shape_of-out-in-Closed : goal.shape_of-out-in-Closed
 shape_of-out-in-Closed t c = c.loop-i.invariant.sized
 
 pub returns-in-Closed : goal.returns-in-Closed
-returns-in-Closed t c = puts_closed c.loop-i.invariant c.loop-i-test.true (sym c.in-Closed.ensures)
+returns-in-Closed t c = puts_closed c.loop-i.invariant c.loop-i-test.true (sym (rw c.in-Closed.is at c.in_ok-read_token.ensures))
 
 pub overflow_sub-out : goal.overflow_sub-out
 overflow_sub-out t c = let inv = c.loop-i.invariant in let fits = inv.fits in let sized = inv.sized in omega arith
@@ -40,7 +40,7 @@ pub shape_of-out-then-out-to-lt-RECORD : goal.shape_of-out-then-out-to-lt-RECORD
 shape_of-out-then-out-to-lt-RECORD t c = c.loop-i.invariant.sized
 
 pub returns-then-out-to-lt-RECORD : goal.returns-then-out-to-lt-RECORD
-returns-then-out-to-lt-RECORD t c = puts_full c.loop-i.invariant c.loop-i-test.true (sym c.in-Leaf.ensures) c.if-out-to-lt-RECORD.true
+returns-then-out-to-lt-RECORD t c = puts_full c.loop-i.invariant c.loop-i-test.true (sym (rw c.in-Leaf.is at c.in_ok-read_token.ensures)) c.if-out-to-lt-RECORD.true
 
 pub set_element-requires : goal.set_element-requires
 set_element-requires t c = (c.loop-i.invariant.given.sized, (let it : max_elements - c.args.spot.levels < max_elements = let few = c.requires.1.shallow in let some = c.if-levels-eq0.false in omega arith in it))
@@ -48,7 +48,7 @@ set_element-requires t c = (c.loop-i.invariant.given.sized, (let it : max_elemen
 pub put_record-requires : goal.put_record-requires
 put_record-requires t c = let pre = c.requires in (
   pre.0,
-  record_right c.loop-i.invariant c.loop-i-test.true (sym c.in-Leaf.ensures) pre.1
+  record_right c.loop-i.invariant c.loop-i-test.true (sym (rw c.in-Leaf.is at c.in_ok-read_token.ensures)) pre.1
       c.if-levels-eq0.false c.if-out-to-lt-RECORD.false c.set_element.ensures,
 )
 
@@ -57,10 +57,10 @@ overflow_add-to t c = let early = c.loop-i.invariant.early in let more = c.loop-
     let within = c.requires.1.tree_within in omega arith
 
 pub loop-i-smaller-in-Leaf : goal.loop-i-smaller-in-Leaf
-loop-i-smaller-in-Leaf t c = leaf_fewer _ _ _ _ _ _ _ (sym c.in-Leaf.ensures)
+loop-i-smaller-in-Leaf t c = leaf_fewer _ _ _ _ _ _ _ (sym (rw c.in-Leaf.is at c.in_ok-read_token.ensures))
 
 pub loop-i-preserved-in-Leaf : goal.loop-i-preserved-in-Leaf
-loop-i-preserved-in-Leaf t c = put_next c.loop-i.invariant c.loop-i-test.true (sym c.in-Leaf.ensures)
+loop-i-preserved-in-Leaf t c = put_next c.loop-i.invariant c.loop-i-test.true (sym (rw c.in-Leaf.is at c.in_ok-read_token.ensures))
     c.requires.1 c.if-levels-eq0.false c.if-out-to-lt-RECORD.false c.set_element.ensures
     c.put_record.ensures c.put_record.auto.out
 
@@ -68,34 +68,33 @@ pub set_element-requires-in-Opened : goal.set_element-requires-in-Opened
 set_element-requires-in-Opened t c = (c.loop-i.invariant.given.sized, (let it : max_elements - c.args.spot.levels < max_elements = let few = c.requires.1.shallow in let some = c.if-levels-eq0.false in omega arith in it))
 
 pub overflow_add-inside : goal.overflow_add-inside
-overflow_add-inside t c = let ends = (opened_ends _ _ _ _ (sym c.in-Opened.ensures)).1 in omega arith
+overflow_add-inside t c = let ends = (opened_ends _ _ _ _ (sym (rw c.in-Opened.is at c.in_ok-read_token.ensures))).1 in omega arith
 
 pub put_directory-requires : goal.put_directory-requires
 put_directory-requires t c = let pre = c.requires in
-    let right = inner_right c.loop-i.invariant c.loop-i-test.true (sym c.in-Opened.ensures)
+    let right = inner_right c.loop-i.invariant c.loop-i-test.true (sym (rw c.in-Opened.is at c.in_ok-read_token.ensures))
     pre.1 c.if-levels-eq0.false refl c.set_element-in-Opened.ensures c.loop-i.out refl in
     ((let it : c.args.spot.levels - 1 < t = let same = c.decreases in let some = c.if-levels-eq0.false in omega arith in it), (pre.0, right))
 
 pub loop-i-smaller : goal.loop-i-smaller
-loop-i-smaller t c = let ends = inside_behind _ (sym c.in-Opened.ensures)
-    (rw c.in-Past.is at c.put_directory.ensures) refl in
+loop-i-smaller t c = let ends = inside_behind _ (sym (rw c.in-Opened.is at c.in_ok-read_token.ensures)) c.in_ok-put-in-Opened.ensures refl in
     fewer_behind _ _ _ ends.0 ends.1
 
 pub loop-i-preserved : goal.loop-i-preserved
-loop-i-preserved t c = put_past c.loop-i.invariant c.loop-i-test.true (sym c.in-Opened.ensures)
+loop-i-preserved t c = put_past c.loop-i.invariant c.loop-i-test.true (sym (rw c.in-Opened.is at c.in_ok-read_token.ensures))
     c.requires.1 c.if-levels-eq0.false refl c.set_element-in-Opened.ensures c.put_directory.auto.out
-    (rw c.in-Past.is at c.put_directory.ensures)
+    c.in_ok-put-in-Opened.ensures
 
-pub shape_of-path-in-WrongTree : goal.shape_of-path-in-WrongTree
-shape_of-path-in-WrongTree t c = c.put_directory.auto.path ∙ c.set_element-in-Opened.auto.path ∙ (let it : length c.loop-i.path ≡ length c.args.path.now = c.loop-i.invariant.given.sized ∙ sym c.requires.1.given.sized in it)
+pub shape_of-path-in_err-put-in-Opened : goal.shape_of-path-in_err-put-in-Opened
+shape_of-path-in_err-put-in-Opened t c = c.put_directory.auto.path ∙ c.set_element-in-Opened.auto.path ∙ (let it : length c.loop-i.path ≡ length c.args.path.now = c.loop-i.invariant.given.sized ∙ sym c.requires.1.given.sized in it)
 
-pub shape_of-out-in-WrongTree : goal.shape_of-out-in-WrongTree
-shape_of-out-in-WrongTree t c = c.put_directory.auto.out ∙ c.loop-i.invariant.sized
+pub shape_of-out-in_err-put-in-Opened : goal.shape_of-out-in_err-put-in-Opened
+shape_of-out-in_err-put-in-Opened t c = c.put_directory.auto.out ∙ c.loop-i.invariant.sized
 
-pub returns-in-WrongTree : goal.returns-in-WrongTree
-returns-in-WrongTree t c = puts_inside c.loop-i.invariant c.loop-i-test.true (sym c.in-Opened.ensures)
+pub returns-in_err-put-in-Opened : goal.returns-in_err-put-in-Opened
+returns-in_err-put-in-Opened t c = rw c.from_residual-in_err-put-in-Opened.ensures (puts_inside c.loop-i.invariant c.loop-i-test.true (sym (rw c.in-Opened.is at c.in_ok-read_token.ensures))
     c.requires.1 c.if-levels-eq0.false refl c.set_element-in-Opened.ensures c.put_directory.auto.out
-    (rw c.in-WrongTree.is at c.put_directory.ensures)
+    c.in_err-put-in-Opened.ensures)
 
 pub shape_of-path : goal.shape_of-path
 shape_of-path t c = (let it : length c.loop-i.path ≡ length c.args.path.now = c.loop-i.invariant.given.sized ∙ sym c.requires.1.given.sized in it)

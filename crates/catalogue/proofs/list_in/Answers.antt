@@ -2,7 +2,7 @@ use Rattle.std.proofs.Common.{arith, ℕ, refl}
 use Rattle.filetree.specs.Path.{path_size}
 use Rattle.catalogue.proofs.PutLaws.{tree_written}
 use Rattle.catalogue.proofs.Filling.{keys_indexed, first_spot}
-use lib.ListN.{length-replicate}
+use Rattle.std.proofs.lemmas.List.{length-replicate}
 use Rattle.catalogue.proofs.list_in.Goals as goal
 
 pub index-requires : goal.index-requires

@@ -5,11 +5,8 @@ use Rattle.frames.proofs.is_sendable.Goals as goal
 pub returns-then-n-eq0 : goal.returns-then-n-eq0
 returns-then-n-eq0 c = sendable_none c.args.message.now c.if-n-eq0.true
 
-pub returns-then-z-eq0 : goal.returns-then-z-eq0
-returns-then-z-eq0 c = sendable_unknown c.args.message.now c.wide-id.result c.sizes_of-z.result
-    c.if-n-eq0.false c.wide-id.ensures.0 c.sizes_of-z.ensures c.if-z-eq0.true
+pub returns-in-Some : goal.returns-in-Some
+returns-in-Some c = c.right_for.ensures ∙ sendable_known c.args.message.now c.wide-id.result _ c.if-n-eq0.false c.wide-id.ensures.0 c.in-Some.ensures
 
-pub returns : goal.returns
-returns c = c.right_for.ensures
-    ∙ sendable_known c.args.message.now c.wide-id.result c.sizes_of-z.result
-    c.if-n-eq0.false c.wide-id.ensures.0 c.sizes_of-z.ensures c.if-z-eq0.false
+pub returns-in-None : goal.returns-in-None
+returns-in-None c = sendable_unknown c.args.message.now c.wide-id.result c.if-n-eq0.false c.wide-id.ensures.0 c.in-None.ensures

@@ -1,9 +1,6 @@
-use Rattle.std.proofs.Common.{◌-◌, ◌≤◌, length, ◌≡◌}
-use lib.Seq.{paste}
+use Rattle.std.proofs.Common.{◌≡◌}
+use Rattle.std.proofs.Math.Seq.{paste}
 use Rattle.frames.proofs.put_few.Given as goal
 
 abbrev pub invariant-loop-i : goal.invariant-loop-i
-invariant-loop-i l = (l.i ≤ length l.bytes) × (l.room ≡ paste l.initial.room l.at l.bytes l.i)
-
-abbrev pub decreases-loop-i : goal.decreases-loop-i
-decreases-loop-i l = length l.bytes - l.i
+invariant-loop-i l = (l.room ≡ paste l.initial.room l.at l.bytes l.i)

@@ -2,7 +2,6 @@ use Rattle.std.proofs.Common.{arith}
 use Rattle.header.proofs.Rules.{place_by}
 use Rattle.header.specs.HeaderLaws.{rules_kept_lem, top_inside}
 use Rattle.header.proofs.place_of.Goals as goal
-use Rattle.header.proofs.place_of.Goals.{then-k-proof, else-k-proof}
 
 pub overflow_add-l : goal.overflow_add-l
 overflow_add-l c = let a = c.args in
@@ -24,6 +23,4 @@ pub returns : goal.returns
 returns c = let a = c.args in
     let K = rules_kept_lem a.header a.height c.requires.2 in
     let k = c.log2-k in
-    place_by a.header a.height k.result c.if-k-proof.u c.node_number-top.result K.two k.ensures
-    (λ g. elim c.if-k-proof.branch [ then-k-proof w ↦ w.u-is | else-k-proof w ↦ absurd (omega arith) ], λ g. elim c.if-k-proof.branch [ then-k-proof w ↦ absurd (omega arith) | else-k-proof w ↦ w.u-is ])
-    c.node_number-top.ensures
+    place_by a.header a.height k.result _ c.node_number-top.result K.two k.ensures (λ g. omega arith, λ g. omega arith) c.node_number-top.ensures

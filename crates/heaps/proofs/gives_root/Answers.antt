@@ -1,6 +1,6 @@
 use Rattle.std.proofs.Common.{ℕ, ◌^◌, ◌<◌, arith, sym, ◌∙◌, ap}
 use Rattle.heaps.proofs.Steps.{layer_under, leaves_few, root_worked}
-use lib.ListN.{length-replicate}
+use Rattle.std.proofs.lemmas.List.{length-replicate}
 use Rattle.tree.specs.Values.{layer_leaf, pad_value}
 use Rattle.heaps.specs.HeapsLaws.{over_layer}
 use Rattle.heaps.proofs.gives_root.Goals as goal

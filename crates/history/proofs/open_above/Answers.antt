@@ -8,20 +8,16 @@ use Rattle.history.proofs.open_above.Goals as goal
 
 pub loop-l-init : goal.loop-l-init
 unfolding zero_hash
-loop-l-init c = (omega arith, above_none c.args.nodes.now c.args.leaf c.args.i, zero_pad, omega arith)
-
-pub loop-l-smaller : goal.loop-l-smaller
-loop-l-smaller c = omega (arith, c.loop-l-test.true)
+loop-l-init c = (above_none c.args.nodes.now c.args.leaf c.args.i, zero_pad, omega arith)
 
 pub loop-l-preserved : goal.loop-l-preserved
 unfolding node_at
 loop-l-preserved c = let a = c.args in
     let L = c.loop-l in (
-      omega (arith, c.loop-l-test.true),
-      above_more a.nodes.now a.leaf c.hash_at-left.result L.child L.pad c.parent-up.result a.i L.j L.l L.invariant.1 L.invariant.2 L.invariant.3 c.hash_at-left.ensures c.parent-up.ensures,
-      pad_next L.pad c.pair-wider.result L.l L.invariant.2 c.pair-wider.ensures,
-      half_more a.i L.j L.l L.invariant.3,
+      above_more a.nodes.now a.leaf c.hash_at-left.result L.child L.pad c.parent-up.result a.i L.j L.l L.invariant.0 L.invariant.1 L.invariant.2 c.hash_at-left.ensures c.parent-up.ensures,
+      pad_next L.pad c.pair-wider.result L.l L.invariant.1 c.pair-wider.ensures,
+      half_more a.i L.j L.l L.invariant.2,
     )
 
 pub returns : goal.returns
-returns c = let e : c.loop-l.l ≡ c.args.k = omega (arith, c.loop-l.invariant.0, c.loop-l-test.false) in c.loop-l.invariant.1 ∙ ap (open_above c.args.nodes.now c.args.leaf c.args.i) e
+returns c = let e : c.loop-l.l ≡ c.args.k = omega (arith, c.loop-l-test.false) in c.loop-l.invariant.0 ∙ ap (open_above c.args.nodes.now c.args.leaf c.args.i) e

@@ -1,4 +1,4 @@
-use Rattle.std.proofs.Common.{eq-eqb, ne_eqb, ◌%◌, length, sym}
+use Rattle.std.proofs.Common.{eq-eqb, ne_eqb, ◌%◌, sym}
 use Rattle.tree.specs.Geometry.{block_length}
 use Rattle.octets.specs.Octets.{zero_hash}
 use Rattle.history.specs.Growing.{open_leaf}

@@ -1,4 +1,4 @@
-use Rattle.std.proofs.Common.{arith, length, ap, ◌∙◌}
+use Rattle.std.proofs.Common.{arith, ap, ◌∙◌}
 use Rattle.history.proofs.LastLaws.{tall_enough}
 use Rattle.tree.specs.Geometry.{height}
 use Rattle.octets.specs.Octets.{zero_hash}

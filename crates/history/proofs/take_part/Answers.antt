@@ -1,6 +1,6 @@
 -- More than a block is eight of them; else the piece that is run past is written, and the bytes taken.
 -- Assumes nothing.
-use Rattle.std.proofs.Common.{arith, length, sym, ◌∙◌}
+use Rattle.std.proofs.Common.{arith, sym, ◌∙◌}
 use Rattle.history.proofs.Steps.{note_law}
 use Rattle.history.proofs.take_part.Goals as goal
 

@@ -9,12 +9,9 @@ returns-then-ends_here c = reads_ended _ _ (sym c.ends_here.ensures ∙ c.if-end
 pub returns-then-not-is_dictionary : goal.returns-then-not-is_dictionary
 returns-then-not-is_dictionary c = reads_other _ _ (sym c.ends_here.ensures ∙ c.if-ends_here.false) (sym c.is_dictionary.ensures ∙ c.if-not-is_dictionary.true)
 
-pub returns-in-Broken : goal.returns-in-Broken
-returns-in-Broken c = reads_broken _ _ (sym c.ends_here.ensures ∙ c.if-ends_here.false) _ (sym c.in-Broken.ensures) (λ k e. let z : ◌≡◌ {A = ℕ} 0 1 = cc in omega arith)
+pub returns-in-Err : goal.returns-in-Err
+returns-in-Err c = reads_broken _ _ (sym c.ends_here.ensures ∙ c.if-ends_here.false) _ (sym c.in-Err.ensures) (λ k e. let z : ◌≡◌ {A = ℕ} 0 1 = cc in omega arith)
 
-pub returns-in-TooDeep : goal.returns-in-TooDeep
-returns-in-TooDeep c = reads_broken _ _ (sym c.ends_here.ensures ∙ c.if-ends_here.false) _ (sym c.in-TooDeep.ensures) (λ k e. let z : ◌≡◌ {A = ℕ} 0 1 = cc in omega arith)
-
-pub returns-in-Past : goal.returns-in-Past
-returns-in-Past c = let w = sym c.in-Past.ensures in
+pub returns-in-Ok : goal.returns-in-Ok
+returns-in-Ok c = let w = sym c.in-Ok.ensures in
     reads_entry _ _ (sym c.ends_here.ensures ∙ c.if-ends_here.false) (sym c.is_dictionary.ensures ∙ c.if-not-is_dictionary.false) _ w (value_ends _ _ _ _ w) _ c.entry_at.ensures

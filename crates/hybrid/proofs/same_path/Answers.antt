@@ -1,5 +1,5 @@
 use Rattle.std.proofs.Common.{arith, sym}
-use Rattle.octets.specs.Octets.{cut, same}
+use Rattle.octets.specs.Octets.{cut}
 use Rattle.bencode.specs.EndsLaws.{string_ends}
 use Rattle.hybrid.specs.EntryLaws.{path_outside}
 use Rattle.hybrid.specs.PathLaws.{compare_start, compare_end, compare_wrong, compare_outside, compare_short, compare_other, compare_more}
@@ -23,33 +23,33 @@ returns-then-y-x c = compare_wrong _ _ _ _ _ _ _ c.loop-k.invariant c.loop-k-tes
 pub returns-then-tree-y : goal.returns-then-tree-y
 returns-then-tree-y c = compare_outside _ _ _ _ _ _ _ c.loop-k.invariant c.loop-k-test.true _ c.if-tree-y.true
 
-pub returns-in-NoString : goal.returns-in-NoString
-returns-in-NoString c = compare_short _ _ _ _ _ _ _ c.loop-k.invariant c.loop-k-test.true (sym c.in-NoString.ensures)
+pub returns-in-None : goal.returns-in-None
+returns-in-None c = compare_short _ _ _ _ _ _ _ c.loop-k.invariant c.loop-k-test.true (sym c.in-None.ensures)
 
 pub slice_bounds-same-count : goal.slice_bounds-same-count
-slice_bounds-same-count c = let e = sym c.in-Content.ensures in
+slice_bounds-same-count c = let e = sym c.in-Some.ensures in
     let g = string_ends _ _ _ _ e in
     omega (arith, g.0, g.1, g.2)
 
 pub slice_bounds-same-start : goal.slice_bounds-same-start
-slice_bounds-same-start c = let e = sym c.in-Content.ensures in
+slice_bounds-same-start c = let e = sym c.in-Some.ensures in
     let g = string_ends _ _ _ _ e in
     omega (arith, g.0, g.1, g.2)
 
 pub slice_bounds-same-end : goal.slice_bounds-same-end
-slice_bounds-same-end c = let e = sym c.in-Content.ensures in
+slice_bounds-same-end c = let e = sym c.in-Some.ensures in
     let g = string_ends _ _ _ _ e in
     omega (arith, g.0, g.1, g.2)
 
 pub returns-then-not-same : goal.returns-then-not-same
 unfolding cut
-returns-then-not-same c = let e = sym c.in-Content.ensures in
+returns-then-not-same c = let e = sym c.in-Some.ensures in
     let g = string_ends _ _ _ _ e in
     compare_other _ _ _ _ _ _ _ c.loop-k.invariant c.loop-k-test.true _ _ e _ c.same.ensures (c.if-not-same.true)
 
 pub loop-k-preserved : goal.loop-k-preserved
 unfolding cut
-loop-k-preserved c = let e = sym c.in-Content.ensures in
+loop-k-preserved c = let e = sym c.in-Some.ensures in
     let g = string_ends _ _ _ _ e in
     compare_more _ _ _ _ _ _ _ c.loop-k.invariant c.loop-k-test.true _ _ e _ c.same.ensures (c.if-not-same.false)
 

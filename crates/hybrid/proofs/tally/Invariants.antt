@@ -4,8 +4,8 @@ use Rattle.hybrid.specs.TallyLaws.{Tallying}
 use Rattle.hybrid.specs.Tally.{Encodes, most_bytes}
 use Rattle.hybrid.proofs.tally.Given as goal
 
-abbrev pub invariant-loop-i : goal.invariant-loop-i
-invariant-loop-i l = (l.files ≤ l.i) × (l.total ≤ most_bytes) × ((vs : Items) → Encodes l.list vs → Tallying l.list l.plen l.i l.files l.total vs)
+abbrev pub invariant-loop-entry : goal.invariant-loop-entry
+invariant-loop-entry l = (l.files ≤ l.i) × (l.total ≤ most_bytes) × ((vs : Items) → Encodes l.list vs → Tallying l.list l.plen l.i l.files l.total vs)
 
-abbrev pub decreases-loop-i : goal.decreases-loop-i
-decreases-loop-i l = length l.list - l.i
+abbrev pub decreases-loop-entry : goal.decreases-loop-entry
+decreases-loop-entry l = length l.list - l.i

@@ -6,6 +6,3 @@ use Rattle.hybrid.proofs.without_p.Given as goal
 
 abbrev pub invariant-loop-i : goal.invariant-loop-i
 invariant-loop-i l = (l.start ≤ l.i) × (l.i ≤ l.end) × (without letter_p (cut l.bytes l.start (l.end - l.start)) ≡ without letter_p (cut l.bytes l.i (l.end - l.i)))
-
-abbrev pub decreases-loop-i : goal.decreases-loop-i
-decreases-loop-i l = l.end - l.i

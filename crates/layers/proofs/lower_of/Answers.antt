@@ -1,12 +1,11 @@
-use Rattle.std.proofs.Common.{sym}
-use Rattle.layers.proofs.Finding.{lower_amiss, lower_none, lower_other}
+use Rattle.layers.proofs.Finding.{lower_first, lower_none_yet, lower_later}
 use Rattle.layers.proofs.lower_of.Goals as goal
 
-pub returns-then-number-eq-LAYERS_AMISS : goal.returns-then-number-eq-LAYERS_AMISS
-returns-then-number-eq-LAYERS_AMISS c = sym (lower_amiss _ _ c.if-number-eq-LAYERS_AMISS.true)
+pub returns-in-None : goal.returns-in-None
+returns-in-None c = lower_none_yet _ c.in-None.is _ _ c.err.ensures.value
 
-pub returns-then-n-eq0 : goal.returns-then-n-eq0
-returns-then-n-eq0 c = sym (lower_none _ _ c.if-number-eq-LAYERS_AMISS.false c.if-n-eq0.true)
+pub returns-in-LayersAmiss : goal.returns-in-LayersAmiss
+returns-in-LayersAmiss c = lower_first _ _ c.in-Some.is c.in-LayersAmiss.is _
 
-pub returns : goal.returns
-returns c = sym (lower_other _ _ c.if-number-eq-LAYERS_AMISS.false c.if-n-eq0.false)
+pub returns-in_default : goal.returns-in_default
+returns-in_default c = lower_later _ _ c.in-Some.is c.in_default.not-LayersAmiss _ _ _ c.err-in_default.ensures.value c.or.ensures

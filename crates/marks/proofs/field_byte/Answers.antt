@@ -1,4 +1,4 @@
-use Rattle.std.proofs.Common.{arith, ◌≡◌, refl, ap, ◌∙◌, ◌+◌}
+use Rattle.std.proofs.Common.{arith, refl, ◌+◌}
 use Rattle.marks.specs.MarksLaws.{one_small}
 use Rattle.marks.proofs.Answers.{bits_turn, bits_low}
 use Rattle.marks.specs.Marks.{field_bits, piece_marked}
@@ -6,22 +6,13 @@ use Rattle.marks.proofs.field_byte.Goals as goal
 
 pub loop-i-init : goal.loop-i-init
 unfolding field_bits
-loop-i-init c = (omega arith, refl)
-
-pub overflow_add-piece : goal.overflow_add-piece
-overflow_add-piece c = omega (arith, c.requires.1)
-
-pub piece_bit-bit-requires : goal.piece_bit-bit-requires
-piece_bit-bit-requires c = c.requires.0
+loop-i-init c = (refl)
 
 pub overflow_mul-x : goal.overflow_mul-x
-overflow_mul-x c = omega (arith, bits_low _ _ _ _ c.loop-i.invariant.1 c.loop-i-test.true)
+overflow_mul-x c = omega (arith, bits_low _ _ _ _ c.loop-i.invariant c.loop-i-test.true)
 
 pub overflow_add-x : goal.overflow_add-x
-overflow_add-x c = omega (arith, bits_low _ _ _ _ c.loop-i.invariant.1 c.loop-i-test.true, c.piece_bit-bit.ensures, one_small (piece_marked c.args.store.now (c.args.piece + c.loop-i.i)))
+overflow_add-x c = omega (arith, bits_low _ _ _ _ c.loop-i.invariant c.loop-i-test.true, c.piece_bit-bit.ensures, one_small (piece_marked c.args.store.now (c.args.piece + c.loop-i.i)))
 
 pub loop-i-preserved : goal.loop-i-preserved
-loop-i-preserved c = (omega arith, bits_turn _ _ _ _ _ c.loop-i.invariant.1 c.piece_bit-bit.ensures)
-
-pub returns : goal.returns
-returns c = let e : c.loop-i.i ≡ 8 = omega (arith, c.loop-i-test.false, c.loop-i.invariant.0) in c.loop-i.invariant.1 ∙ ap (field_bits _ _) e
+loop-i-preserved c = (bits_turn _ _ _ _ _ c.loop-i.invariant c.piece_bit-bit.ensures)

@@ -1,5 +1,5 @@
 -- Past the file's pieces the bit is 0; else it says whether all blocks that the piece covers are marked.
-use Rattle.std.proofs.Common.{arith}
+use Rattle.std.proofs.Common.{arith, refl, ◌∙◌}
 use Rattle.store.specs.StoreLaws.{usable_facts}
 use Rattle.marks.specs.MarksLaws.{covered_fits}
 use Rattle.marks.proofs.Answers.{counted, bit_past, bit_by}
@@ -14,18 +14,12 @@ piece_length_of-plen-requires c = (usable_facts _ c.requires).long
 pub returns-then-piece-c : goal.returns-then-piece-c
 returns-then-piece-c c = bit_past _ _ (omega (arith, counted _ _ _ _ c.file_length-size.ensures c.piece_length_of-plen.ensures c.piece_count-c.ensures, c.if-piece-c.true))
 
-pub first_block-first-requires : goal.first_block-first-requires
-first_block-first-requires c = (c.requires, omega (arith, counted _ _ _ _ c.file_length-size.ensures c.piece_length_of-plen.ensures c.piece_count-c.ensures, c.if-piece-c.false))
-
-pub all_marked-all-requires : goal.all_marked-all-requires
-all_marked-all-requires c = (
+pub all_marked-requires : goal.all_marked-requires
+all_marked-requires c = (
   c.requires,
   c.marks_start-start.ensures,
   omega (arith, c.blocks_in-n.ensures, c.first_block-first.ensures, covered_fits _ (usable_facts _ c.requires) c.args.piece (omega (arith, counted _ _ _ _ c.file_length-size.ensures c.piece_length_of-plen.ensures c.piece_count-c.ensures, c.if-piece-c.false))),
 )
 
-pub returns-then-all : goal.returns-then-all
-returns-then-all c = bit_by _ _ _ _ _ _ (omega (arith, counted _ _ _ _ c.file_length-size.ensures c.piece_length_of-plen.ensures c.piece_count-c.ensures, c.if-piece-c.false)) c.first_block-first.ensures c.blocks_in-n.ensures c.all_marked-all.ensures c.if-all.true
-
-pub returns-else-all : goal.returns-else-all
-returns-else-all c = bit_by _ _ _ _ _ _ (omega (arith, counted _ _ _ _ c.file_length-size.ensures c.piece_length_of-plen.ensures c.piece_count-c.ensures, c.if-piece-c.false)) c.first_block-first.ensures c.blocks_in-n.ensures c.all_marked-all.ensures c.if-all.false
+pub returns : goal.returns
+returns c = c.from.ensures ∙ bit_by _ _ _ _ _ _ (omega (arith, counted _ _ _ _ c.file_length-size.ensures c.piece_length_of-plen.ensures c.piece_count-c.ensures, c.if-piece-c.false)) c.first_block-first.ensures c.blocks_in-n.ensures c.all_marked.ensures refl

@@ -1,9 +1,8 @@
-use Rattle.std.proofs.Common.{refl, arith}
-use Rattle.octets.proofs.Turn.{turn_read, whole_read}
+use Rattle.std.proofs.Common.{take, ap, ◌∙◌}
+use Rattle.std.proofs.lemmas.List.{take_rest}
+use Rattle.octets.specs.Octets.{cut}
 use Rattle.octets.proofs.hash_at.Goals as goal
 
-pub loop-i-preserved : goal.loop-i-preserved
-loop-i-preserved c = (omega arith, turn_read _ _ c.args.bytes.now c.args.at _ c.loop-i.invariant.1 (omega arith) (omega (arith, c.requires)))
-
 pub returns : goal.returns
-returns c = whole_read _ _ _ _ c.loop-i.i 32 c.loop-i.invariant.1 refl (omega arith)
+unfolding cut
+returns g c = (rw c.unwrap.ensures at c.first_chunk.ensures.cases).same ∙ ap (take g.row.N) (take_rest c.args.bytes.now c.args.at)

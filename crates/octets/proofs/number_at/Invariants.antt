@@ -1,9 +1,6 @@
-use Rattle.std.proofs.Common.{◌-◌, ◌≤◌, ◌<◌, ◌^◌, ◌≡◌}
+use Rattle.std.proofs.Common.{◌<◌, ◌^◌, ◌≡◌}
 use Rattle.octets.specs.Octets.{number_at}
 use Rattle.octets.proofs.number_at.Given as goal
 
 abbrev pub invariant-loop-i : goal.invariant-loop-i
-invariant-loop-i l = (l.i ≤ l.size) × (l.x ≡ number_at l.bytes l.at l.i) × (l.x < 256 ^ l.i)
-
-abbrev pub decreases-loop-i : goal.decreases-loop-i
-decreases-loop-i l = l.size - l.i
+invariant-loop-i l = (l.x ≡ number_at l.bytes l.at l.i) × (l.x < 256 ^ l.i)

@@ -1,13 +1,8 @@
-use Rattle.std.proofs.Common.{arith, length, refl}
-use Rattle.octets.proofs.Turn.{turn, whole}
-use lib.Seq.{paste-zero}
+use Rattle.std.proofs.Common.{length, refl, arith}
+use Rattle.std.proofs.lemmas.Slice.{put_mid-paste}
+use Rattle.octets.proofs.Turn.{whole}
 use Rattle.padding.proofs.put.Goals as goal
 
-pub loop-i-init : goal.loop-i-init
-loop-i-init c = (omega arith, paste-zero c.args.b.now c.args.at c.args.bytes.now)
-
-pub loop-i-preserved : goal.loop-i-preserved
-loop-i-preserved c = (omega arith, turn _ _ _ _ _ c.loop-i.invariant.1 (omega arith) (omega arith))
-
 pub returns : goal.returns
-returns c = whole _ _ _ _ c.loop-i.i (length c.args.bytes.now) c.loop-i.invariant.1 refl (omega (arith, c.loop-i.invariant.0))
+returns c = let s = c.args.bytes.now in
+    whole _ _ c.args.at s (length s) (length s) (put_mid-paste c.args.at _ c.args.b.now c.copy_from_slice.new.self s (length s) c.copy_from_slice.ensures.after (omega arith) refl) refl refl

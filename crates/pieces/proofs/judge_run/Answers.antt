@@ -1,16 +1,12 @@
--- Not held is 6; else the number is by what look_run worked out. The top's cell lies in the store, where the subtree fits.
+-- Not held is 6; else the number is by what look_run worked out.
+use Rattle.std.proofs.Common.{rules}
+use Rattle.numbers.specs.Refusals.{refused_is_some}
+use Rattle.settling.specs.Subtree.{run_leaf}
 use Rattle.pieces.proofs.Ways.{judged_held, judged_6}
-use Rattle.settling.specs.SubtreeLaws.{fit_self}
 use Rattle.pieces.proofs.judge_run.Goals as goal
 
-pub held-held-requires : goal.held-held-requires
-held-held-requires c = fit_self c.requires
-
-pub judge_seen-requires : goal.judge_seen-requires
-judge_seen-requires c = fit_self c.requires
-
-pub returns-then-held : goal.returns-then-held
-returns-then-held c = judged_held _ _ _ c.held-held.ensures _ _ c.if-held.true _ _ _ c.look_run-seen.ensures c.judge_seen.ensures
+pub returns-in_err-anchored : goal.returns-in_err-anchored
+returns-in_err-anchored c = let w = judged_6 c.args.store.now c.args.top (run_leaf c.args.run.now c.args.pad) c.args.height _ c.in_err-anchored.ensures (refused_is_some _) in search (rules, w)
 
 pub returns : goal.returns
-returns c = judged_6 _ _ _ c.held-held.ensures _ _ c.if-held.false
+returns c = judged_held _ _ _ _ c.in_ok-anchored.ensures _ _ _ c.look_run-seen.ensures c.judge_seen.ensures

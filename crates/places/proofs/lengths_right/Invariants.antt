@@ -1,9 +1,6 @@
-use Rattle.std.proofs.Common.{◌-◌, ◌≤◌, ◌≡◌}
+use Rattle.std.proofs.Common.{◌-◌, ◌≡◌}
 use Rattle.places.specs.Places.{lengths_right}
 use Rattle.places.proofs.lengths_right.Given as goal
 
 abbrev pub invariant-loop-i : goal.invariant-loop-i
-invariant-loop-i l = (l.i ≤ l.files) × (lengths_right l.list l.i (l.files - l.i) ≡ lengths_right l.list 0 l.files)
-
-abbrev pub decreases-loop-i : goal.decreases-loop-i
-decreases-loop-i l = l.files - l.i
+invariant-loop-i l = lengths_right l.list l.i (l.files - l.i) ≡ lengths_right l.list 0 l.files

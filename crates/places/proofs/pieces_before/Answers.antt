@@ -5,7 +5,7 @@ use Rattle.places.proofs.PlacesLaws.{record_within, before_none, before_more, su
 use Rattle.places.proofs.pieces_before.Goals as goal
 
 pub loop-i-init : goal.loop-i-init
-loop-i-init c = (omega arith, sym (before_none _ _))
+loop-i-init c = sym (before_none _ _)
 
 pub length_of-n-requires : goal.length_of-n-requires
 length_of-n-requires c = record_within c.args.list.now c.loop-i.i (omega (arith, c.requires.2, c.loop-i-test.true))
@@ -15,14 +15,14 @@ overflow_add-sum c = let a = c.args in
     let pre = c.requires in
     let w = sum_fits a.list.now a.plen c.loop-i.i pre.0 pre.1 (omega (arith, pre.2, c.loop-i-test.true)) in
     let e = pieces_are a.list.now a.plen c.loop-i.i c.length_of-n.result c.piece_count-c.result c.length_of-n.ensures c.piece_count-c.ensures in
-    omega (arith, c.loop-i.invariant.1, e)
+    omega (arith, c.loop-i.invariant, e)
 
 pub loop-i-preserved : goal.loop-i-preserved
 loop-i-preserved c = let a = c.args in
     let e = pieces_are a.list.now a.plen c.loop-i.i c.length_of-n.result c.piece_count-c.result c.length_of-n.ensures c.piece_count-c.ensures in
-    (omega arith, omega (arith, c.loop-i.invariant.1, e, before_more a.list.now a.plen c.loop-i.i))
+    omega (arith, c.loop-i.invariant, e, before_more a.list.now a.plen c.loop-i.i)
 
 pub returns : goal.returns
 returns c = let a = c.args in
     let e : c.loop-i.i ≡ a.file = omega arith in
-    c.loop-i.invariant.1 ∙ ap (pieces_before a.list.now a.plen) e
+    c.loop-i.invariant ∙ ap (pieces_before a.list.now a.plen) e

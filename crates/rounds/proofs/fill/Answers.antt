@@ -1,15 +1,15 @@
 -- With i words made, the first 16 + i are the schedule's.
 -- Assumes nothing.
-use Rattle.std.proofs.Common.{arith, take, drop, refl, rules}
+use Rattle.std.proofs.Common.{arith, ◌+◌, ◌*◌, take, drop}
 use Rattle.rounds.specs.StageLaws.{stage_first, stage_last, stage_at}
 use Rattle.rounds.proofs.fill.Goals as goal
 
 pub loop-i-init : goal.loop-i-init
-loop-i-init c = (search rules, refl, stage_first (take 64 (drop c.args.at c.args.bytes.now)) c.load.new.w c.load.ensures.0 c.load.ensures.1)
+loop-i-init c = stage_first (take 64 (drop c.args.at c.args.bytes.now)) c.load.new.w c.load.ensures.0 c.load.ensures.1
 
 pub loop-i-preserved : goal.loop-i-preserved
-loop-i-preserved c = (omega arith, omega arith, c.grow4.ensures (take 64 (drop c.args.at c.args.bytes.now)) c.loop-i.invariant.2)
+loop-i-preserved c = stage_at (4 * (c.loop-i.i + 1)) (c.grow4.ensures (take 64 (drop c.args.at c.args.bytes.now)) c.loop-i.invariant) (omega arith)
 
 pub returns : goal.returns
 returns c = let m = take 64 (drop c.args.at c.args.bytes.now) in
-    stage_last m c.loop-i.w (stage_at 48 c.loop-i.invariant.2 (omega arith))
+    stage_last m c.loop-i.w (stage_at 48 c.loop-i.invariant (omega arith))

@@ -1,9 +1,6 @@
-use Rattle.std.proofs.Common.{◌-◌, ◌≤◌, ◌%◌, take, drop, ◌≡◌}
+use Rattle.std.proofs.Common.{◌*◌, take, drop}
 use Rattle.rounds1.specs.Stage.{Stage}
 use Rattle.rounds1.proofs.fill.Given as goal
 
 abbrev pub invariant-loop-i : goal.invariant-loop-i
-invariant-loop-i l = (l.i ≤ 64) × (l.i % 4 ≡ 0) × Stage (take 64 (drop l.at l.bytes)) l.i l.w
-
-abbrev pub decreases-loop-i : goal.decreases-loop-i
-decreases-loop-i l = 64 - l.i
+invariant-loop-i l = Stage (take 64 (drop l.at l.bytes)) (4 * l.i) l.w

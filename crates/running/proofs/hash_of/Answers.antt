@@ -10,4 +10,4 @@ slice_bounds-finish-end c = let l64 = (let it : length c.args.hashing.tail ≡ 6
 pub returns : goal.returns
 unfolding hash_of
 returns c = let e : c.args.hashing.total % 64 - 0 ≡ c.args.hashing.tail_size = omega (arith, c.requires) in
-    c.digest.ensures ∙ ap digest (c.finish.ensures ∙ end_as_coded c.args.hashing c.round_words-k.result (c.args.hashing.total % 64 - 0) c.from_words.result e c.round_words-k.ensures c.from_words.ensures)
+    c.digest.ensures ∙ ap digest (c.finish.ensures ∙ end_as_coded c.args.hashing c.round_words-k.result (c.args.hashing.total % 64 - 0) c.from_words-state.result e c.round_words-k.ensures c.from_words-state.ensures)

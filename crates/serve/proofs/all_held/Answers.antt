@@ -1,5 +1,5 @@
 -- The place reaches no cell past the store; the answer is that of the run, then that of the uncles.
-use Rattle.std.proofs.Common.{arith, length}
+use Rattle.std.proofs.Common.{arith, length, ◌∙◌}
 use Rattle.serve.proofs.Answers.{run_cells, held_both, held_not}
 use Rattle.serve.proofs.all_held.Goals as goal
 
@@ -7,14 +7,12 @@ pub overflow_mul-n : goal.overflow_mul-n
 overflow_mul-n c = let a = c.args in
     omega (arith, run_cells (length a.store.now) a.place c.requires c.run_count-c.result c.run_count-c.ensures.0)
 
-pub held_run-run-requires : goal.held_run-run-requires
-held_run-run-requires c = let a = c.args in
+pub held_run-requires : goal.held_run-requires
+held_run-requires c = let a = c.args in
     run_cells (length a.store.now) a.place c.requires c.run_count-c.result c.run_count-c.ensures.0
 
-pub returns-then-run : goal.returns-then-run
-returns-then-run c = let a = c.args in
-    held_both a.store.now a.place c.run_count-c.result c.run_count-c.ensures.0 c.held_run-run.result c.held_run-run.ensures c.held_uncles.result c.if-run.true c.held_uncles.ensures
+pub returns-then-held_run : goal.returns-then-held_run
+returns-then-held_run c = held_both _ _ _ c.run_count-c.ensures.0 _ c.held_run.ensures _ c.if-held_run.true c.held_uncles.ensures
 
-pub returns : goal.returns
-returns c = let a = c.args in
-    held_not a.store.now a.place c.run_count-c.result c.run_count-c.ensures.0 c.held_run-run.result c.held_run-run.ensures c.if-run.false
+pub returns-else-held_run : goal.returns-else-held_run
+returns-else-held_run c = c.if-held_run.false ∙ held_not _ _ _ c.run_count-c.ensures.0 _ c.held_run.ensures c.if-held_run.false

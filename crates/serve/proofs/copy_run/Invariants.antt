@@ -1,10 +1,7 @@
-use Rattle.std.proofs.Common.{◌-◌, ◌≤◌, length, ◌≡◌}
+use Rattle.std.proofs.Common.{length, ◌≡◌}
 use Rattle.octets.specs.Octets.{pasted}
 use Rattle.serve.specs.Serve.{run_hashes}
 use Rattle.serve.proofs.copy_run.Given as goal
 
 abbrev pub invariant-loop-i : goal.invariant-loop-i
-invariant-loop-i l = (l.i ≤ l.c) × (length l.out ≡ length l.initial.out) × (l.out ≡ pasted l.initial.out l.at (run_hashes l.store l.n l.i))
-
-abbrev pub decreases-loop-i : goal.decreases-loop-i
-decreases-loop-i l = l.c - l.i
+invariant-loop-i l = (length l.out ≡ length l.initial.out) × (l.out ≡ pasted l.initial.out l.at (run_hashes l.store l.n l.i))

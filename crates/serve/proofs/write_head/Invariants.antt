@@ -1,10 +1,7 @@
-use Rattle.std.proofs.Common.{◌∷◌, ◌-◌, ◌≤◌, drop, ◌≡◌}
-use lib.Seq.{paste}
+use Rattle.std.proofs.Common.{◌∷◌, ◌≤◌, drop, ◌≡◌}
+use Rattle.std.proofs.Math.Seq.{paste}
 use Rattle.header.specs.Header.{header_size}
 use Rattle.serve.proofs.write_head.Given as goal
 
 abbrev pub invariant-loop-i : goal.invariant-loop-i
 invariant-loop-i l = (1 ≤ l.i) × (l.i ≤ header_size) × (l.out ≡ paste (l.initial.out) 0 (l.id ∷ drop 1 l.message) l.i)
-
-abbrev pub decreases-loop-i : goal.decreases-loop-i
-decreases-loop-i l = header_size - l.i

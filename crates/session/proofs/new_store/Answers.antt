@@ -2,7 +2,7 @@
 -- Assumes nothing.
 use Rattle.std.proofs.Common.{arith, replicate, ℕ, ap, sym}
 use Rattle.session.specs.RoomLaws.{max_store_lem}
-use lib.ListN.{length-replicate}
+use Rattle.std.proofs.lemmas.List.{length-replicate}
 use Rattle.session.proofs.new_store.Goals as goal
 
 pub returns : goal.returns

@@ -7,4 +7,4 @@ use Rattle.numbers.specs.declared.Answer.{Answer}
 use Rattle.session.proofs.stops.Goals as goal
 
 pub returns : goal.returns
-returns c = c.says.ensures ∙ ap (λ (a : Answer). says_at Stopped a) c.refusal.ensures
+returns c = c.says.ensures ∙ ap (λ (a : Answer). says_at Stopped a) c.from.ensures

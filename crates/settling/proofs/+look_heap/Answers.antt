@@ -9,7 +9,7 @@ pub overflow_mul-x : goal.overflow_mul-x
 overflow_mul-x t c = let w = hash_within _ c.args.height c.args.x c.requires.3 in omega arith
 
 pub hash_at-h-requires : goal.hash_at-h-requires
-hash_at-h-requires t c = hash_within _ c.args.height c.args.x c.requires.3
+hash_at-h-requires t c = (omega arith, hash_within _ c.args.height c.args.x c.requires.3)
 
 pub agrees_at-o-requires : goal.agrees_at-o-requires
 agrees_at-o-requires t c = fit_self c.requires.0

@@ -1,11 +1,10 @@
-use Rattle.std.proofs.Common.{refl, ap, ◌∙◌}
-use Rattle.sha_1.proofs.Messages.{whole_law}
+use Rattle.std.proofs.Common.{ap, ◌∙◌}
+use Rattle.rounds1.specs.Block.{compress}
+use Rattle.rounds1.specs.declared.Five.{Five}
+use Rattle.padding.specs.Cutting.{over_message}
 use Rattle.sha_1.specs.Sha1.{digest, sha1}
 use Rattle.sha_1.proofs.hash.Goals as goal
 
 pub returns : goal.returns
 unfolding sha1
-returns c = let m = c.args.bytes.now in
-    let z = c.start in
-    let t = c.whole_blocks-t in
-    c.digest.ensures ∙ ap digest (c.finish.ensures ∙ whole_law m _ z.result t.result refl z.ensures t.ensures)
+returns c = c.digest.ensures ∙ ap digest (c.over.ensures ∙ ap (λ (z : Five). over_message compress z c.args.bytes.now) c.start.ensures)

@@ -7,11 +7,11 @@ use Rattle.store.proofs.is_usable.Goals as goal
 pub returns-then-store-lt64 : goal.returns-then-store-lt64
 returns-then-store-lt64 c = usable_short _ c.if-store-lt64.true
 
-pub size_in_range-size-requires : goal.size_in_range-size-requires
-size_in_range-size-requires c = (range_says _ _ (sym c.facts_in_range-ok.ensures ∙ c.if-ok.true)).1
+pub size_in_range-requires : goal.size_in_range-requires
+size_in_range-requires c = (range_says _ _ (sym c.if-facts_in_range.ensures)).1
 
-pub returns-then-ok : goal.returns-then-ok
-returns-then-ok c = usable_by _ _ _ _ _ c.if-store-lt64.false c.file_length-n.ensures c.piece_length_of-plen.ensures c.facts_in_range-ok.ensures c.if-ok.true c.size_in_range-size.ensures
+pub returns-then-facts_in_range : goal.returns-then-facts_in_range
+returns-then-facts_in_range c = usable_by _ _ _ _ _ c.if-store-lt64.false c.file_length-n.ensures c.piece_length_of-plen.ensures c.facts_in_range.ensures c.if-facts_in_range.true c.size_in_range.ensures
 
-pub returns : goal.returns
-returns c = unusable_by _ _ _ _ c.file_length-n.ensures c.piece_length_of-plen.ensures c.facts_in_range-ok.ensures c.if-ok.false
+pub returns-else-facts_in_range : goal.returns-else-facts_in_range
+returns-else-facts_in_range c = c.if-facts_in_range.false ∙ unusable_by _ _ _ _ c.file_length-n.ensures c.piece_length_of-plen.ensures c.facts_in_range.ensures c.if-facts_in_range.false

@@ -1,5 +1,5 @@
-use Rattle.std.proofs.Common.{eq-eqb, ne_eqb, lt-ltb, le-ltb, le-leb, arith, length}
-use borrow.Author.Tests.{lt-leb}
+use Rattle.std.proofs.Common.{eq-eqb, ne_eqb, lt-ltb, le-ltb, le-leb, arith}
+use Rattle.std.proofs.lemmas.Bool.{lt-leb}
 use Rattle.stream.specs.Reading.{usable_frame}
 use Rattle.stream.proofs.usable_frame.Goals as goal
 

@@ -6,14 +6,13 @@ pub compare_directory-requires : goal.compare_directory-requires
 compare_directory-requires c = let f = c.forget.ensures in
     (c.requires.0, c.requires.3, tree_ahead _ _ _ _ c.requires.0 c.requires.1 _ (forgotten_room c.args.room.now _ _ f c.requires.2) (forgotten c.args.room.now _ _ f))
 
-pub returns-in-Past : goal.returns-in-Past
-returns-in-Past c = let f = c.forget.ensures in
+pub returns : goal.returns
+returns c = let f = c.forget.ensures in
     tree_agrees _ _ _ _ c.requires.0 c.requires.1 _ _ _ _
-    (rw c.in-Past.is at
-    (c.compare_directory.ensures (tree_ahead _ _ _ _ c.requires.0 c.requires.1 _ (forgotten_room c.args.room.now _ _ f c.requires.2) (forgotten c.args.room.now _ _ f))))
+    (c.in_ok-all.ensures (tree_ahead _ _ _ _ c.requires.0 c.requires.1 _ (forgotten_room c.args.room.now _ _ f c.requires.2) (forgotten c.args.room.now _ _ f)))
 
-pub returns-in-Unlike : goal.returns-in-Unlike
-returns-in-Unlike c = let f = c.forget.ensures in
-    tree_differs _ _ _ _ c.requires.0 c.requires.1
-    (rw c.in-Unlike.is at
-    (c.compare_directory.ensures (tree_ahead _ _ _ _ c.requires.0 c.requires.1 _ (forgotten_room c.args.room.now _ _ f c.requires.2) (forgotten c.args.room.now _ _ f))))
+pub returns-in_err-all : goal.returns-in_err-all
+returns-in_err-all c = let f = c.forget.ensures in
+    rw c.from_residual.ensures
+    (tree_differs _ _ _ _ c.requires.0 c.requires.1
+    (c.in_err-all.ensures (tree_ahead _ _ _ _ c.requires.0 c.requires.1 _ (forgotten_room c.args.room.now _ _ f c.requires.2) (forgotten c.args.room.now _ _ f))))

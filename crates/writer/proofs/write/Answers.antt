@@ -1,5 +1,5 @@
-use Rattle.std.proofs.Common.{ℕ, sym}
-use lib.ListN.{length-replicate}
+use Rattle.std.proofs.Common.{ℕ, sym, ◌∙◌}
+use Rattle.std.proofs.lemmas.List.{length-replicate}
 use Rattle.writer_order.specs.Order.{most_files}
 use Rattle.writer.proofs.write.Goals as goal
 
@@ -16,4 +16,4 @@ pub shape_of-out : goal.shape_of-out
 shape_of-out c = c.write_with.auto.out
 
 pub returns : goal.returns
-returns c = c.write_with.ensures
+returns c = (c.from.ensures ∙ c.write_with.ensures.0, c.write_with.ensures.1)

@@ -8,7 +8,7 @@ returns-then-not-list_form c = let a = answer_form c.args.list.now
     c.args.plen
     c.args.name.now
     c.args.out.now
-    (sym c.list_form.ensures ∙ c.if-not-list_form.true) in (c.refusal.ensures ∙ a.0, a.1)
+    (sym c.list_form.ensures ∙ c.if-not-list_form.true) in a
 
 pub returns-then-too_many : goal.returns-then-too_many
 returns-then-too_many c = let a = answer_many c.args.list.now
@@ -17,7 +17,7 @@ returns-then-too_many c = let a = answer_many c.args.list.now
     c.args.name.now
     c.args.out.now
     (sym c.list_form.ensures ∙ c.if-not-list_form.false)
-    (ltb-true _ _ (sym c.too_many.ensures ∙ c.if-too_many.true)) in (c.refusal-then-too_many.ensures ∙ a.0, a.1)
+    (ltb-true _ _ (sym c.too_many.ensures ∙ c.if-too_many.true)) in a
 
 pub slice_bounds-write_in-end : goal.slice_bounds-write_in-end
 slice_bounds-write_in-end c = part_end _ c.args.at.now

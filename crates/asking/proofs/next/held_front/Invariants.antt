@@ -1,9 +1,6 @@
-use Rattle.std.proofs.Common.{true, ℕ, ◌+◌, ◌-◌, ◌≤◌, ◌<◌, ◌≡◌}
+use Rattle.std.proofs.Common.{true, ℕ, ◌+◌, ◌<◌, ◌≡◌}
 use Rattle.cells.specs.Cells.{held_at}
 use Rattle.asking.proofs.next.held_front.Given as goal
 
 abbrev pub invariant-loop-i : goal.invariant-loop-i
-invariant-loop-i l = (l.i ≤ l.count) × ((j : ℕ) → j < l.i → held_at l.store (l.node + j) ≡ true)
-
-abbrev pub decreases-loop-i : goal.decreases-loop-i
-decreases-loop-i l = l.count - l.i
+invariant-loop-i l = ((j : ℕ) → j < l.i → held_at l.store (l.node + j) ≡ true)

@@ -1,9 +1,9 @@
--- The whole layer where it is shorter than the limit, else the limit.
-use Rattle.asking.proofs.Answers.{length_whole, length_limit}
+-- The smaller of the limit and the whole layer.
+use Rattle.std.proofs.Common.{arith, ◌-◌}
+use Rattle.tree.proofs.GeometryLaws.{shifted_one}
+use Rattle.asking.specs.Asking.{run_length}
 use Rattle.asking.proofs.next.run_length.Goals as goal
 
-pub returns-then-whole-lt-LONGEST_RUN : goal.returns-then-whole-lt-LONGEST_RUN
-returns-then-whole-lt-LONGEST_RUN c = length_whole _ _ c.requires.0 c.requires.1 c.if-whole-lt-LONGEST_RUN.true
-
-pub returns-else-whole-lt-LONGEST_RUN : goal.returns-else-whole-lt-LONGEST_RUN
-returns-else-whole-lt-LONGEST_RUN c = length_limit _ _ c.requires.0 c.requires.1 c.if-whole-lt-LONGEST_RUN.false
+pub returns : goal.returns
+unfolding run_length
+returns c = omega (arith, c.min.ensures, shifted_one (c.args.height - c.args.layer) (omega (arith, c.requires.1)))

@@ -1,7 +1,7 @@
 -- The digits passed are in n: what is left, read with n before it, gives what the whole gives. Once n is past a tenth of 2^63 one digit more passes the bound, and no further digit brings the number back.
 use Rattle.std.proofs.Common.{le-leb, arith, refl, ap, sym, ◌∙◌}
 use Rattle.bencode.proofs.Reading.{digits_end, digits_over, digits_stop, digits_low, digits_high, digits_more}
-use borrow.Author.Tests.{lt-leb}
+use Rattle.std.proofs.lemmas.Bool.{lt-leb}
 use Rattle.bencode.specs.Scalar.{bounded}
 use Rattle.bencode.proofs.decimal.digits.Goals as goal
 

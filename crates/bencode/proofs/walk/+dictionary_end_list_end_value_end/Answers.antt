@@ -1,40 +1,34 @@
-use Rattle.std.proofs.Common.{arith, sym, ◌∙◌}
-use Rattle.bencode.proofs.Walking.{list_start, list_none, list_closed, list_broken, list_deep, list_on, dictionary_start, dictionary_none, dictionary_closed, dictionary_no_key, dictionary_broken, dictionary_deep, dictionary_on, key_ends, entry_ends, value_none, value_integer, value_list_deep, value_list, value_dictionary_deep, value_dictionary, value_string}
+use Rattle.std.proofs.Common.{arith, rules, sym, ◌∙◌}
+use Rattle.bencode.proofs.Walking.{list_start, list_none, list_closed, list_amiss, list_on, dictionary_start, dictionary_none, dictionary_closed, dictionary_no_key, dictionary_amiss, dictionary_on, key_ends, entry_ends, value_none, value_integer, value_list_deep, value_list, value_dictionary_deep, value_dictionary, value_string}
 use Rattle.bencode.specs.EndsLaws.{value_ends}
 use Rattle.bencode.proofs.walk.+dictionary_end_list_end_value_end.Goals as goal
 
 pub dictionary_end-returns-then-bytes-i-eq101 : goal.dictionary_end-returns-then-bytes-i-eq101
 dictionary_end-returns-then-bytes-i-eq101 t c = sym (dictionary_closed c.loop-i.invariant.0 c.loop-i-test.true c.if-bytes-i-eq101.true)
 
-pub dictionary_end-returns-in-NoString : goal.dictionary_end-returns-in-NoString
-dictionary_end-returns-in-NoString t c = sym (dictionary_no_key c.loop-i.invariant.0 c.loop-i-test.true c.if-bytes-i-eq101.false
-    (sym c.in-NoString.ensures))
+pub dictionary_end-returns-in-None : goal.dictionary_end-returns-in-None
+dictionary_end-returns-in-None t c = sym (dictionary_no_key c.loop-i.invariant.0 c.loop-i-test.true c.if-bytes-i-eq101.false
+    (sym c.in-None.ensures))
 
 pub dictionary_end-loop-i-smaller : goal.dictionary_end-loop-i-smaller
-dictionary_end-loop-i-smaller t c = let e = sym c.in-Content.ensures in
-    let v = sym c.in-Past.ensures in
+dictionary_end-loop-i-smaller t c = let e = sym c.in-Some.ensures in
+    let v = sym c.in_ok-i-in-Some.ensures in
     let further = entry_ends _ _ _ _ _ _ _ e v in omega arith
 
 pub dictionary_end-loop-i-preserved : goal.dictionary_end-loop-i-preserved
-dictionary_end-loop-i-preserved t c = let e = sym c.in-Content.ensures in
-    let v = sym c.in-Past.ensures in (
+dictionary_end-loop-i-preserved t c = let e = sym c.in-Some.ensures in
+    let v = sym c.in_ok-i-in-Some.ensures in (
       dictionary_on c.loop-i.invariant.0 c.loop-i-test.true c.if-bytes-i-eq101.false e _ v (entry_ends _ _ _ _ _ _ _ e v),
-      (key_ends _ _ _ _ _ e).1,
-      (key_ends _ _ _ _ _ e).2,
+      ((key_ends _ _ _ _ _ e).1, (key_ends _ _ _ _ _ e).2),
     )
 
-pub dictionary_end-returns-in-Broken : goal.dictionary_end-returns-in-Broken
-dictionary_end-returns-in-Broken t c = let e = sym c.in-Content.ensures in
-    sym (dictionary_broken c.loop-i.invariant.0 c.loop-i-test.true c.if-bytes-i-eq101.false e
-    (sym c.in-Broken.ensures))
-
-pub dictionary_end-returns-in-TooDeep : goal.dictionary_end-returns-in-TooDeep
-dictionary_end-returns-in-TooDeep t c = let e = sym c.in-Content.ensures in
-    sym (dictionary_deep c.loop-i.invariant.0 c.loop-i-test.true c.if-bytes-i-eq101.false e
-    (sym c.in-TooDeep.ensures))
+pub dictionary_end-returns-in_err-i-in-Some : goal.dictionary_end-returns-in_err-i-in-Some
+dictionary_end-returns-in_err-i-in-Some t c = let e = sym c.in-Some.ensures in
+    let w = dictionary_amiss c.loop-i.invariant.0 c.loop-i-test.true c.if-bytes-i-eq101.false e _ (sym c.in_err-i-in-Some.ensures) in
+    search (rules, w)
 
 pub dictionary_end-loop-i-init : goal.dictionary_end-loop-i-init
-dictionary_end-loop-i-init t c = (dictionary_start _ _ _, omega arith, omega arith)
+dictionary_end-loop-i-init t c = (dictionary_start _ _ _, tt)
 
 pub dictionary_end-value_end-requires : goal.dictionary_end-value_end-requires
 dictionary_end-value_end-requires t c = (omega arith, tt)
@@ -46,18 +40,16 @@ pub list_end-returns-then-bytes-i-eq101 : goal.list_end-returns-then-bytes-i-eq1
 list_end-returns-then-bytes-i-eq101 t c = sym (list_closed c.loop-i.invariant c.loop-i-test.true c.if-bytes-i-eq101.true)
 
 pub list_end-loop-i-smaller : goal.list_end-loop-i-smaller
-list_end-loop-i-smaller t c = let v = sym c.in-Past.ensures in
+list_end-loop-i-smaller t c = let v = sym c.in_ok-i.ensures in
     let further = value_ends _ _ _ _ v in omega arith
 
 pub list_end-loop-i-preserved : goal.list_end-loop-i-preserved
-list_end-loop-i-preserved t c = let v = sym c.in-Past.ensures in
+list_end-loop-i-preserved t c = let v = sym c.in_ok-i.ensures in
     list_on c.loop-i.invariant c.loop-i-test.true c.if-bytes-i-eq101.false _ v (value_ends _ _ _ _ v).0
 
-pub list_end-returns-in-Broken : goal.list_end-returns-in-Broken
-list_end-returns-in-Broken t c = sym (list_broken c.loop-i.invariant c.loop-i-test.true c.if-bytes-i-eq101.false (sym c.in-Broken.ensures))
-
-pub list_end-returns-in-TooDeep : goal.list_end-returns-in-TooDeep
-list_end-returns-in-TooDeep t c = sym (list_deep c.loop-i.invariant c.loop-i-test.true c.if-bytes-i-eq101.false (sym c.in-TooDeep.ensures))
+pub list_end-returns-in_err-i : goal.list_end-returns-in_err-i
+list_end-returns-in_err-i t c = let w = list_amiss c.loop-i.invariant c.loop-i-test.true c.if-bytes-i-eq101.false _ (sym c.in_err-i.ensures) in
+    search (rules, w)
 
 pub list_end-loop-i-init : goal.list_end-loop-i-init
 list_end-loop-i-init t c = list_start _ _ _

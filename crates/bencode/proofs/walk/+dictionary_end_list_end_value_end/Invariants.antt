@@ -1,7 +1,8 @@
 -- By the levels left: a value asks for its items or entries with a level less, these for their values with the
 -- same. The loops have come to i: what is left from there gives what the whole gives, `ListAt` and `DictionaryAt`.
-use Rattle.std.proofs.Common.{length, ◌+◌, ◌-◌, ◌≤◌}
+use Rattle.std.proofs.Common.{length, ◌+◌, ◌-◌}
 use Rattle.bencode.proofs.Walking.{ListAt, DictionaryAt}
+use Rattle.bencode.specs.Scalar.{Within}
 use Rattle.bencode.specs.Walk.{walk_value, key_before}
 use Rattle.bencode.proofs.walk.+dictionary_end_list_end_value_end.Given as goal
 
@@ -16,7 +17,7 @@ decreases-value_end l = l.levels + l.levels
 
 abbrev pub invariant-dictionary_end-loop-i : goal.invariant-dictionary_end-loop-i
 invariant-dictionary_end-loop-i l =
-    DictionaryAt (walk_value l.levels) l.bytes l.initial.i l.i (key_before l.seen l.start l.end l.bytes) × (l.start ≤ l.end) × (l.end ≤ length l.bytes)
+    DictionaryAt (walk_value l.levels) l.bytes l.initial.i l.i (key_before l.before l.bytes) × Within (length l.bytes) l.before
 
 abbrev pub decreases-dictionary_end-loop-i : goal.decreases-dictionary_end-loop-i
 decreases-dictionary_end-loop-i l = length l.bytes - l.i

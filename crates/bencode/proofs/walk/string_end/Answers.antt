@@ -3,8 +3,8 @@ use Rattle.std.proofs.Common.{ap, sym}
 use Rattle.bencode.specs.Walk.{past_string}
 use Rattle.bencode.proofs.walk.string_end.Goals as goal
 
-pub returns-in-Content : goal.returns-in-Content
-returns-in-Content c = sym (ap past_string (sym c.in-Content.ensures))
+pub returns-in-Some : goal.returns-in-Some
+returns-in-Some c = sym (ap past_string (sym c.in-Some.ensures))
 
-pub returns-in-NoString : goal.returns-in-NoString
-returns-in-NoString c = sym (ap past_string (sym c.in-NoString.ensures))
+pub returns-in-None : goal.returns-in-None
+returns-in-None c = sym (ap past_string (sym c.in-None.ensures))

@@ -1,11 +1,7 @@
-use Rattle.std.proofs.Common.{◌-◌, ◌≤◌, ◌≡◌}
+use Rattle.std.proofs.Common.{◌≡◌}
 use Rattle.catalogue.specs.Asks.{array_elements}
-use Rattle.filetree.specs.Tree.{max_elements}
 use Rattle.octets.specs.Octets.{pasted}
 use Rattle.catalogue.proofs.record.put_elements.Given as goal
 
 abbrev pub invariant-loop-k : goal.invariant-loop-k
-invariant-loop-k l = (l.k ≤ max_elements) × (l.out ≡ pasted l.initial.out l.at (array_elements l.base l.path l.n l.k))
-
-abbrev pub decreases-loop-k : goal.decreases-loop-k
-decreases-loop-k l = max_elements - l.k
+invariant-loop-k l = (l.out ≡ pasted l.initial.out l.at (array_elements l.base l.path l.n l.k))

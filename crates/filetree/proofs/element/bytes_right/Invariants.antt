@@ -5,6 +5,3 @@ use Rattle.filetree.proofs.element.bytes_right.Given as goal
 
 abbrev pub invariant-loop-i : goal.invariant-loop-i
 invariant-loop-i l = allowed (cut l.bytes l.start l.size) ≡ allowed (cut l.bytes (l.start + l.i) (l.size - l.i))
-
-abbrev pub decreases-loop-i : goal.decreases-loop-i
-decreases-loop-i l = l.size - l.i

@@ -2,8 +2,8 @@ use Rattle.std.proofs.Common.{sym, ◌∙◌}
 use Rattle.filetree.proofs.Reading.{length_of_lem}
 use Rattle.filetree.proofs.file.read_length.Goals as goal
 
-pub returns-in-Missing : goal.returns-in-Missing
-returns-in-Missing c = sym (length_of_lem _ _ _ (sym c.in-Missing.ensures))
+pub returns-in-None : goal.returns-in-None
+returns-in-None c = sym (length_of_lem _ _ _ (sym c.in-None.ensures))
 
-pub returns-in-Part : goal.returns-in-Part
-returns-in-Part c = c.length_here.ensures ∙ sym (length_of_lem _ _ _ (sym c.in-Part.ensures))
+pub returns-in-Some : goal.returns-in-Some
+returns-in-Some c = c.length_here.ensures ∙ sym (length_of_lem _ _ _ (sym c.in-Some.ensures))

@@ -5,16 +5,14 @@ use Rattle.lanes.specs.LanesLaws.{passed_none, passed_more}
 use Rattle.lanes.proofs.block.grow_all.Goals as goal
 
 pub loop-j-init : goal.loop-j-init
-loop-j-init c = (omega arith, passed_none 64 _ _)
+loop-j-init c = (passed_none 64 _ _)
 
 pub grow4-requires : goal.grow4-requires
-grow4-requires c = (c.requires.0, omega arith, c.loop-j.invariant.1.size ∙ c.requires.1)
+grow4-requires c = (c.requires.0, omega arith, c.loop-j.invariant.size ∙ c.requires.1)
 
 pub loop-j-preserved : goal.loop-j-preserved
-loop-j-preserved c = (
-  omega arith,
-  passed_more 64 _ c.loop-j.j _ c.loop-j.w _ (omega arith) c.loop-j.invariant.1 c.grow4.ensures.1 c.grow4.ensures.0,
-)
+loop-j-preserved c = (passed_more 64 _ c.loop-j.j _ c.loop-j.w _ (omega arith) c.loop-j.invariant c.grow4.ensures.1 c.grow4.ensures.0
+    )
 
 pub returns : goal.returns
-returns c = let e : c.loop-j.j ≡ 8 = omega arith in rw e at c.loop-j.invariant.1
+returns c = let e : c.loop-j.j ≡ 8 = omega arith in rw e at c.loop-j.invariant

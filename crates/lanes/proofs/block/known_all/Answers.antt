@@ -5,16 +5,14 @@ use Rattle.lanes.specs.LanesLaws.{passed_none, rounding_more}
 use Rattle.lanes.proofs.block.known_all.Goals as goal
 
 pub loop-j-init : goal.loop-j-init
-loop-j-init c = (omega arith, passed_none 8 _ _)
+loop-j-init c = (passed_none 8 _ _)
 
 pub known4-requires : goal.known4-requires
-known4-requires c = (c.requires.0, omega arith, c.loop-j.invariant.1.size ∙ c.requires.1)
+known4-requires c = (c.requires.0, omega arith, c.loop-j.invariant.size ∙ c.requires.1)
 
 pub loop-j-preserved : goal.loop-j-preserved
-loop-j-preserved c = let a = c.args in (
-  omega arith,
-  rounding_more (λ (y : ℕ). a.x.now) a.i (a.i + 4) c.loop-j.j _ c.loop-j.t _ (omega arith) c.loop-j.invariant.1 c.known4.ensures.1 c.known4.ensures.0,
-)
+loop-j-preserved c = let a = c.args in (rounding_more (λ (y : ℕ). a.x.now) a.i (a.i + 4) c.loop-j.j _ c.loop-j.t _ (omega arith) c.loop-j.invariant c.known4.ensures.1 c.known4.ensures.0
+    )
 
 pub returns : goal.returns
-returns c = let e : c.loop-j.j ≡ 8 = omega arith in rw e at c.loop-j.invariant.1
+returns c = let e : c.loop-j.j ≡ 8 = omega arith in rw e at c.loop-j.invariant

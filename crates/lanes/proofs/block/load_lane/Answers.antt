@@ -7,16 +7,15 @@ use Rattle.lanes.proofs.block.load_lane.Goals as goal
 
 pub loop-i-init : goal.loop-i-init
 unfolding words
-loop-i-init c = (omega arith, refl, beside_none 64 c.args.j c.args.w.now)
+loop-i-init c = (refl, beside_none 64 c.args.j c.args.w.now)
 
 pub loop-i-preserved : goal.loop-i-preserved
 loop-i-preserved c = let a = c.args in
     let l = c.loop-i in
-    let n : length l.w ≡ 512 = l.invariant.2.size ∙ c.requires.2 in (
-      omega arith,
-      load_more a.bytes.now l.w a.at l.i a.j c.word.result (omega arith) c.requires.0 n l.invariant.1 c.word.ensures,
-      beside_then l.invariant.2 (beside_set 64 l.w l.i a.j c.word.result c.requires.0),
+    let n : length l.w ≡ 512 = l.invariant.1.size ∙ c.requires.2 in (
+      load_more a.bytes.now l.w a.at l.i a.j c.word.result (omega arith) c.requires.0 n l.invariant.0 c.word.ensures,
+      beside_then l.invariant.1 (beside_set 64 l.w l.i a.j c.word.result c.requires.0),
     )
 
 pub returns : goal.returns
-returns c = let e : c.loop-i.i ≡ 16 = omega arith in (rw e at c.loop-i.invariant.1, c.loop-i.invariant.2)
+returns c = let e : c.loop-i.i ≡ 16 = omega arith in (rw e at c.loop-i.invariant.0, c.loop-i.invariant.1)

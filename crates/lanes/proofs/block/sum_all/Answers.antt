@@ -5,14 +5,13 @@ use Rattle.lanes.specs.LanesLaws.{sum_more, state_sum}
 use Rattle.lanes.proofs.block.sum_all.Goals as goal
 
 pub loop-i-init : goal.loop-i-init
-loop-i-init c = (omega arith, refl, λ x h. absurd (omega arith))
+loop-i-init c = (refl, λ x h. absurd (omega arith))
 
 pub loop-i-preserved : goal.loop-i-preserved
 loop-i-preserved c = (
-  omega arith,
-  length-set c.loop-i.r c.loop-i.i c.add.result ∙ c.loop-i.invariant.1,
-  sum_more c.args.st c.args.t c.loop-i.r c.loop-i.i c.add.result (omega arith) c.loop-i.invariant.2 c.add.ensures,
+  length-set c.loop-i.r c.loop-i.i c.add.result ∙ c.loop-i.invariant.0,
+  sum_more c.args.st c.args.t c.loop-i.r c.loop-i.i c.add.result (omega arith) c.loop-i.invariant.1 c.add.ensures,
 )
 
 pub returns : goal.returns
-returns c = (c.loop-i.invariant.1, λ j h. state_sum c.args.st c.args.t c.loop-i.r (λ x l. c.loop-i.invariant.2 x (omega arith)) j h)
+returns c = (c.loop-i.invariant.0, λ j h. state_sum c.args.st c.args.t c.loop-i.r (λ x l. c.loop-i.invariant.1 x (omega arith)) j h)

@@ -11,7 +11,7 @@ use Rattle.lanes.specs.Hashes.{eighth_hash}
 use Rattle.lanes.proofs.hashes.hash8.Goals as goal
 
 pub loop-j-init : goal.loop-j-init
-loop-j-init c = (omega arith, filled_none _ 256 _ refl)
+loop-j-init c = (filled_none _ 256 _ refl)
 
 pub loop-j-preserved : goal.loop-j-preserved
 unfolding eighth_hash
@@ -24,7 +24,7 @@ loop-j-preserved c = let s = c.args.bytes.now in
     let e : h ≡ sha256 (cut s (l.j * n) n) =
     hash_of c.round_words-k.result (cut s (l.j * n) n) h z c.round_words-k.ensures (c.start8.ensures.1 l.j b) (c.message_hash-h.ensures z (c.whole_blocks8-t.ensures.1 l.j b)) in
     let k : length h ≡ 32 = ap length e ∙ (sha256_octets (cut s (l.j * n) n)).size in
-    (omega arith, filled_one (eighth_hash s) 256 l.j l.r _ h l.invariant.1 (omega arith) k e c.put_hash.ensures)
+    (filled_one (eighth_hash s) 256 l.j l.r _ h l.invariant (omega arith) k e c.put_hash.ensures)
 
 pub returns : goal.returns
-returns c = let e : c.loop-j.j ≡ 8 = omega arith in rw e at c.loop-j.invariant.1
+returns c = let e : c.loop-j.j ≡ 8 = omega arith in rw e at c.loop-j.invariant

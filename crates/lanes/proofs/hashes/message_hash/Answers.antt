@@ -18,4 +18,4 @@ slice_bounds-rest-end c = omega (arith, reach c.args.j c.args.n c.requires.0)
 pub returns : goal.returns
 returns c = λ z e.
     c.digest.ensures
-    ∙ ap digest (c.finish.ensures ∙ message_law c.args.k.now c.args.bytes.now z c.lane_of.result c.args.n c.args.j c.requires.1 c.requires.0 (c.lane_of.ensures ∙ e))
+    ∙ ap digest (c.finish.ensures ∙ message_law c.args.k.now c.args.bytes.now z c.lane_of-state.result c.args.n c.args.j c.requires.1 c.requires.0 (c.lane_of-state.ensures ∙ e))

@@ -22,21 +22,21 @@ loop-q-preserved c = let args = c.args in
           (λ j h. c.pairs8-p.ensures.hashes j h ∙ parent_in l.heap q j (64 * q + 512 - 64 * q) h (omega arith)) c.put8.ensures,
     )
 
-pub loop-q-2-init : goal.loop-q-2-init
-loop-q-2-init c = let i = c.loop-q.invariant in (i.0, i.1, heap_again i.2)
+pub loop-n-init : goal.loop-n-init
+loop-n-init c = let i = c.loop-q.invariant in (i.0, i.1, heap_again i.2)
 
-pub loop-q-2-preserved : goal.loop-q-2-preserved
+pub loop-n-preserved : goal.loop-n-preserved
 unfolding parent_of
-loop-q-2-preserved c = let l = c.loop-q-2 in
-    let q = l.q - 1 in
+loop-n-preserved c = let l = c.loop-n in
+    let q = l.n - 1 in
     let h = c.pair-h.result in
     let e : h ≡ parent_of l.heap q = c.pair-h.ensures ∙ ap₂ pair_hash c.hash_at-l.ensures c.hash_at-r.ensures in
     let k : length h ≡ 32 = ap length e ∙ (pair_octets _ _).size in (
       omega arith,
       omega arith,
-      heap_more q 1 c.args.leaves c.loop-q.heap l.heap _ h (heap_at l.q (q + 1) l.invariant.2 (omega arith))
+      heap_more q 1 c.args.leaves c.loop-q.heap l.heap _ h (heap_at l.n (q + 1) l.invariant.2 (omega arith))
           (omega arith) (omega arith) k (one_parent q l.heap h k e) c.put_hash.ensures,
     )
 
 pub returns : goal.returns
-returns c = heap_at c.loop-q-2.q 1 (heap_then c.loop-q.invariant.2 c.loop-q-2.invariant.2) (omega arith)
+returns c = heap_at c.loop-n.n 1 (heap_then c.loop-q.invariant.2 c.loop-n.invariant.2) (omega arith)

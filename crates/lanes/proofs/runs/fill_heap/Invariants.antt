@@ -8,8 +8,5 @@ invariant-loop-q l = (1 ≤ l.q) × (l.q ≤ l.leaves) × Heap l.q l.leaves l.in
 abbrev pub decreases-loop-q : goal.decreases-loop-q
 decreases-loop-q l = l.q
 
-abbrev pub invariant-loop-q-2 : goal.invariant-loop-q-2
-invariant-loop-q-2 l = (1 ≤ l.q) × (l.q ≤ l.leaves) × Heap l.q l.leaves l.initial.heap l.heap
-
-abbrev pub decreases-loop-q-2 : goal.decreases-loop-q-2
-decreases-loop-q-2 l = l.q
+abbrev pub invariant-loop-n : goal.invariant-loop-n
+invariant-loop-n l = (1 ≤ l.n) × (l.n ≤ l.leaves) × Heap l.n l.leaves l.initial.heap l.heap

@@ -1,4 +1,4 @@
-use Rattle.std.proofs.Common.{true, List, arith, ℕ, ap, sym, ◌∙◌}
+use Rattle.std.proofs.Common.{List, arith, ℕ, ap, sym, ◌∙◌}
 use Rattle.octets.specs.Octets.{same}
 use Rattle.messages.proofs.Padding.{all_none, all_more, all_done, all_fails}
 use Rattle.messages.proofs.padded.all_from.Goals as goal

@@ -1,10 +1,7 @@
-use Rattle.std.proofs.Common.{◌-◌, ◌*◌, ◌≤◌, ◌≡◌}
+use Rattle.std.proofs.Common.{◌*◌, ◌≤◌, ◌≡◌}
 use Rattle.saved.specs.Ahead.{Ready}
 use Rattle.saved.specs.Saved.{claimed}
 use Rattle.saved.proofs.chain.claim_all.Given as goal
 
 abbrev pub invariant-loop-j : goal.invariant-loop-j
 invariant-loop-j l = (2 * l.n ≡ claimed l.height l.blocks l.bytes l.j) × (2 * l.n ≤ l.j) × (l.j ≤ l.places) × Ready l.bytes l.places l.n l.room
-
-abbrev pub decreases-loop-j : goal.decreases-loop-j
-decreases-loop-j l = l.places - l.j

@@ -1,9 +1,6 @@
-use Rattle.std.proofs.Common.{true, ◌-◌, ◌≤◌, ◌≡◌}
+use Rattle.std.proofs.Common.{true, ◌≡◌}
 use Rattle.saved.specs.Form.{marks_good, next_block}
 use Rattle.saved.proofs.form.marks_good.Given as goal
 
 abbrev pub invariant-loop-k : goal.invariant-loop-k
-invariant-loop-k l = (l.k ≤ l.marks) × (marks_good l.blocks l.bytes l.at l.k ≡ true) × (l.next ≡ next_block l.bytes l.at l.k)
-
-abbrev pub decreases-loop-k : goal.decreases-loop-k
-decreases-loop-k l = l.marks - l.k
+invariant-loop-k l = (marks_good l.blocks l.bytes l.at l.k ≡ true) × (l.next ≡ next_block l.bytes l.at l.k)

@@ -31,4 +31,4 @@ pub set_marks-requires : goal.set_marks-requires
 set_marks-requires c = marks_here c.args.store.now c.args.bytes.now c.requires.0 (sound_formed _ c.requires.1) _ _ _ _ c.number_at-n.ensures.0 c.number_at-plen.ensures.0 c.hash_at-root.ensures c.open.ensures.1 _ _ _ c.block_count-c.ensures c.height-h.ensures c.place_count-p.ensures _ c.put_places.ensures _ c.mark_count-m.ensures.0
 
 pub returns : goal.returns
-returns c = all_written c.args.store.now c.args.bytes.now c.requires.0 (sound_formed _ c.requires.1) _ _ _ _ c.number_at-n.ensures.0 c.number_at-plen.ensures.0 c.hash_at-root.ensures c.open.ensures.1 _ _ _ c.block_count-c.ensures c.height-h.ensures c.place_count-p.ensures _ c.put_places.ensures _ c.mark_count-m.ensures.0 _ _ c.set_marks.ensures c.success.ensures
+returns c = all_written c.args.store.now c.args.bytes.now c.requires.0 (sound_formed _ c.requires.1) _ _ _ _ c.number_at-n.ensures.0 c.number_at-plen.ensures.0 c.hash_at-root.ensures c.open.ensures.1 _ _ _ c.block_count-c.ensures c.height-h.ensures c.place_count-p.ensures _ c.put_places.ensures _ c.mark_count-m.ensures.0 _ c.set_marks.ensures

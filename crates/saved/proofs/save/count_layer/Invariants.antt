@@ -1,9 +1,6 @@
-use Rattle.std.proofs.Common.{◌-◌, ◌≤◌, length, ◌≡◌}
+use Rattle.std.proofs.Common.{◌≤◌, length, ◌≡◌}
 use Rattle.saved.specs.Save.{layer_held}
 use Rattle.saved.proofs.save.count_layer.Given as goal
 
 abbrev pub invariant-loop-i : goal.invariant-loop-i
-invariant-loop-i l = (l.i ≤ l.w) × (l.n ≡ length (layer_held l.store l.height l.layer l.i)) × (l.n ≤ l.i)
-
-abbrev pub decreases-loop-i : goal.decreases-loop-i
-decreases-loop-i l = l.w - l.i
+invariant-loop-i l = (l.n ≡ length (layer_held l.store l.height l.layer l.i)) × (l.n ≤ l.i)

@@ -1,9 +1,6 @@
-use Rattle.std.proofs.Common.{◌-◌, ◌≤◌, length, ◌≡◌}
+use Rattle.std.proofs.Common.{◌≤◌, length, ◌≡◌}
 use Rattle.saved.specs.Save.{marked_below}
 use Rattle.saved.proofs.save.count_marks.Given as goal
 
 abbrev pub invariant-loop-i : goal.invariant-loop-i
-invariant-loop-i l = (l.i ≤ l.n) × (l.m ≡ length (marked_below l.store l.i)) × (l.m ≤ l.i)
-
-abbrev pub decreases-loop-i : goal.decreases-loop-i
-decreases-loop-i l = l.n - l.i
+invariant-loop-i l = (l.m ≡ length (marked_below l.store l.i)) × (l.m ≤ l.i)

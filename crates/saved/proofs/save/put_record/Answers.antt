@@ -9,7 +9,7 @@ pub put_number-requires-2 : goal.put_number-requires-2
 put_number-requires-2 c = (fits_after c.args.out.now c.put_number.new.bytes c.args.at 2 5 4 c.put_number.auto.bytes c.requires (omega arith), omega arith)
 
 pub put_hash-requires : goal.put_hash-requires
-put_hash-requires c = fits_after c.args.out.now c.put_number-2.new.bytes c.args.at 2 9 32 (c.put_number-2.auto.bytes ∙ c.put_number.auto.bytes) c.requires (omega arith)
+put_hash-requires c = (omega arith, fits_after c.args.out.now c.put_number-2.new.bytes c.args.at 2 9 32 (c.put_number-2.auto.bytes ∙ c.put_number.auto.bytes) c.requires (omega arith))
 
 pub shape_of-out : goal.shape_of-out
 shape_of-out c = c.put_hash.auto.bytes ∙ c.put_number-2.auto.bytes ∙ c.put_number.auto.bytes ∙ length-set c.args.out.now c.args.at 2

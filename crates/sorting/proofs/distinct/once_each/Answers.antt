@@ -1,13 +1,15 @@
 -- Sorted, the positions are the same ones, and those of one string stand side by side; the first of each is kept.
-use Rattle.std.proofs.Common.{length-take-le, arith, ◌-◌, ◌≡◌, ◌∙◌}
+use Rattle.std.proofs.Common.{length-take-le, length, take, arith, ap, sym, ℕ, cond, ltb, ◌-◌, ◌≡◌, ◌∙◌}
+use Rattle.sorting.specs.SortedBy.{sorted_by}
+use Rattle.sorting.specs.Sorting.{lower}
+use Rattle.sorting.specs.SortingLaws.{fit_member}
 use Rattle.sorting.proofs.Thinning.{first_fit, sorted_fit, thinned_back, room_back}
 use Rattle.sorting.proofs.distinct.once_each.Goals as goal
 
 pub sort-requires : goal.sort-requires
 sort-requires c = let z : c.args.count - 0 ≡ c.args.count = omega arith in (
-  first_fit _ c.args.at.now (c.args.count - 0) c.args.count z c.requires.2,
-  length-take-le (c.args.count - 0) c.args.at.now (omega arith) ∙ z,
-  length-take-le (c.args.count - 0) c.args.room.now (omega arith) ∙ z,
+  fit_member _ _ (first_fit _ c.args.at.now (c.args.count - 0) c.args.count z c.requires.2),
+  length-take-le (c.args.count - 0) c.args.room.now (omega arith) ∙ sym (length-take-le (c.args.count - 0) c.args.at.now (omega arith)),
 )
 
 pub thin-requires : goal.thin-requires
@@ -20,4 +22,8 @@ returns c = let sorted = c.sort in
     let thinned = c.thin in
     let z : c.args.count - 0 ≡ c.args.count = omega arith in
     let back = thinned_back _ c.args.at.now (c.args.count - 0) c.args.count z c.requires.0 sorted.new.at sorted.ensures.0 _ thinned.new.at thinned.ensures in
-    (back.0, back.1, room_back _ c.args.at.now c.args.room.now (c.args.count - 0) c.args.count z sorted.new.room sorted.ensures.1)
+    let long : length (take (c.args.count - 0) c.args.at.now) ≡ c.args.count =
+    length-take-le (c.args.count - 0) c.args.at.now (omega arith) ∙ z in
+    let shown = sorted.ensures.1 ∙ ap (λ (n : ℕ). cond (ltb n 2) (take (c.args.count - 0) c.args.room.now)
+    (sorted_by (lower c.args.bytes.now) (take (c.args.count - 0) c.args.at.now))) long in
+    (back.0, back.1, room_back _ c.args.at.now c.args.room.now (c.args.count - 0) c.args.count z sorted.new.room shown)

@@ -9,16 +9,13 @@ pub loop-i-init : goal.loop-i-init
 loop-i-init c = thinned_start _ _ _ c.if-at-eq0.false c.requires
 
 pub keep-kept-requires : goal.keep-kept-requires
-keep-kept-requires c = let w = c.loop-i.invariant in (w.fit, w.some, w.order, c.loop-i-test.true)
-
-pub loop-i-smaller : goal.loop-i-smaller
-loop-i-smaller c = let z = c.loop-i.invariant.size in let h = c.loop-i-test.true in omega arith
+keep-kept-requires c = let w = c.loop-i.invariant in (w.fit, w.some, w.order, omega (arith, w.size, c.loop-i-test.true))
 
 pub loop-i-preserved : goal.loop-i-preserved
-loop-i-preserved c = thinned_on _ _ _ _ _ _ c.loop-i.invariant c.loop-i-test.true _ _ c.keep-kept.ensures
+loop-i-preserved c = thinned_on _ _ _ _ _ _ c.loop-i.invariant (omega (arith, c.loop-i.invariant.size, c.loop-i-test.true)) _ _ c.keep-kept.ensures
 
 pub shape_of-at : goal.shape_of-at
 shape_of-at c = c.loop-i.invariant.size
 
 pub returns : goal.returns
-returns c = thinned_end _ _ _ _ _ _ c.loop-i.invariant c.loop-i-test.false
+returns c = thinned_end _ _ _ _ _ _ c.loop-i.invariant (omega (arith, c.loop-i.invariant.size, c.loop-i-test.false))

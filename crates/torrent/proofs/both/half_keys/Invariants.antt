@@ -5,8 +5,8 @@ use Rattle.meaning.specs.Keys.{key_length}
 use lib.ListN as L
 use Rattle.torrent.proofs.both.half_keys.Given as goal
 
-abbrev pub invariant-loop-at : goal.invariant-loop-at
-invariant-loop-at l = (Sought key_files l.bytes l.at l.files) × (Sought key_length l.bytes l.at l.length) × (Sought key_name l.bytes l.at l.name) × (Sought key_pieces l.bytes l.at l.pieces)
+abbrev pub invariant-loop-start : goal.invariant-loop-start
+invariant-loop-start l = (Sought key_files l.bytes l.at l.files) × (Sought key_length l.bytes l.at l.length) × (Sought key_name l.bytes l.at l.name) × (Sought key_pieces l.bytes l.at l.pieces)
 
-abbrev pub decreases-loop-at : goal.decreases-loop-at
-decreases-loop-at l = L.length l.bytes - l.at
+abbrev pub decreases-loop-start : goal.decreases-loop-start
+decreases-loop-start l = L.length l.bytes - l.at

@@ -20,15 +20,15 @@ slice_bounds-alone-start c = let w = (c.in-Text.ensures key_name c.requires.2) i
 pub slice_bounds-alone-end : goal.slice_bounds-alone-end
 slice_bounds-alone-end c = let w = (c.in-Text.ensures key_name c.requires.2) in w.ends.1
 
-pub returns-in-NoNatural : goal.returns-in-NoNatural
-returns-in-NoNatural c = λ info s q plen h. single_no_length info _ q (sym c.in-NoNatural.is ∙ c.length_of.ensures info s) plen
+pub returns-in-None : goal.returns-in-None
+returns-in-None c = λ info s q plen h. single_no_length info _ q (sym c.in-None.is ∙ c.length_of.ensures info s) plen
 
 pub returns-in-NoKey : goal.returns-in-NoKey
-returns-in-NoKey c = λ info s q plen h. let w = (c.in-NoKey.ensures key_name c.requires.2) in single_no_name info _ q _ (sym c.in-Is.is ∙ c.length_of.ensures info s) (none_string (lookup key_name info) (w.string info s)) plen
+returns-in-NoKey c = λ info s q plen h. let w = (c.in-NoKey.ensures key_name c.requires.2) in single_no_name info _ q _ (sym c.in-Some.is ∙ c.length_of.ensures info s) (none_string (lookup key_name info) (w.string info s)) plen
 
 pub returns-in-OtherType : goal.returns-in-OtherType
-returns-in-OtherType c = λ info s q plen h. let w = (c.in-OtherType.ensures key_name c.requires.2) in single_no_name info _ q _ (sym c.in-Is.is ∙ c.length_of.ensures info s) (w.string info s).1 plen
+returns-in-OtherType c = λ info s q plen h. let w = (c.in-OtherType.ensures key_name c.requires.2) in single_no_name info _ q _ (sym c.in-Some.is ∙ c.length_of.ensures info s) (w.string info s).1 plen
 
 pub returns-else-files-ne1 : goal.returns-else-files-ne1
 unfolding cut
-returns-else-files-ne1 c = λ info s q plen h. let w = (c.in-Text.ensures key_name c.requires.2) in single_is info _ q _ _ plen _ (sym c.in-Is.is ∙ c.length_of.ensures info s) (w.string info s).0 (w.string info s).1 (c.alone.ensures plen h)
+returns-else-files-ne1 c = λ info s q plen h. let w = (c.in-Text.ensures key_name c.requires.2) in single_is info _ q _ _ plen _ (sym c.in-Some.is ∙ c.length_of.ensures info s) (w.string info s).0 (w.string info s).1 (c.alone.ensures plen h)

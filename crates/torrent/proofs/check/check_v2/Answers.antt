@@ -1,33 +1,34 @@
-use Rattle.std.proofs.Common.{◌∙◌}
+use Rattle.std.proofs.Common.{rules, refl}
+use Rattle.numbers.specs.Refusals.{refused_is_some}
 use Rattle.torrent.proofs.Checking.{opened, keys_refused, number_refused, number_done, tree_small, layers_open}
 use Rattle.torrent.proofs.check.check_v2.Goals as goal
 
 pub slice_bounds-judge-count : goal.slice_bounds-judge-count
-slice_bounds-judge-count c = (opened _ _ c.read_keys-keys.ensures c.if-number-eq0.true).tree_forward
+slice_bounds-judge-count c = (opened _ _ c.in_ok-keys.ensures refl).tree_forward
 
 pub slice_bounds-judge-start : goal.slice_bounds-judge-start
-slice_bounds-judge-start c = (opened _ _ c.read_keys-keys.ensures c.if-number-eq0.true).tree_forward
+slice_bounds-judge-start c = (opened _ _ c.in_ok-keys.ensures refl).tree_forward
 
 pub slice_bounds-judge-end : goal.slice_bounds-judge-end
-slice_bounds-judge-end c = (opened _ _ c.read_keys-keys.ensures c.if-number-eq0.true).tree_within
+slice_bounds-judge-end c = (opened _ _ c.in_ok-keys.ensures refl).tree_within
 
-pub slice_bounds-judge-count-then-number-eq0 : goal.slice_bounds-judge-count-then-number-eq0
-slice_bounds-judge-count-then-number-eq0 c = (opened _ _ c.read_keys-keys.ensures c.if-number-eq0.true).layers_forward
+pub slice_bounds-judge-count-2 : goal.slice_bounds-judge-count-2
+slice_bounds-judge-count-2 c = (opened _ _ c.in_ok-keys.ensures refl).layers_forward
 
-pub slice_bounds-judge-start-then-number-eq0 : goal.slice_bounds-judge-start-then-number-eq0
-slice_bounds-judge-start-then-number-eq0 c = (opened _ _ c.read_keys-keys.ensures c.if-number-eq0.true).layers_forward
+pub slice_bounds-judge-start-2 : goal.slice_bounds-judge-start-2
+slice_bounds-judge-start-2 c = (opened _ _ c.in_ok-keys.ensures refl).layers_forward
 
-pub slice_bounds-judge-end-then-number-eq0 : goal.slice_bounds-judge-end-then-number-eq0
-slice_bounds-judge-end-then-number-eq0 c = (opened _ _ c.read_keys-keys.ensures c.if-number-eq0.true).layers_within
+pub slice_bounds-judge-end-2 : goal.slice_bounds-judge-end-2
+slice_bounds-judge-end-2 c = (opened _ _ c.in_ok-keys.ensures refl).layers_within
 
-pub judge-judged-requires : goal.judge-judged-requires
-judge-judged-requires c = (tree_small _ _ c.read_keys-keys.ensures c.if-number-eq0.true, (opened _ _ c.read_keys-keys.ensures c.if-number-eq0.true).piece_length_lem, layers_open _ _ c.read_keys-keys.ensures c.if-number-eq0.true)
+pub judge-requires : goal.judge-requires
+judge-requires c = (tree_small _ _ c.in_ok-keys.ensures refl, (opened _ _ c.in_ok-keys.ensures refl).piece_length_lem, layers_open _ _ c.in_ok-keys.ensures refl)
 
-pub returns-then-answer-eq0 : goal.returns-then-answer-eq0
-returns-then-answer-eq0 c = number_done _ _ c.read_keys-keys.ensures c.if-number-eq0.true _ c.judge-judged.ensures c.if-answer-eq0.true
+pub returns-in_err-keys : goal.returns-in_err-keys
+returns-in_err-keys c = let w = keys_refused _ _ c.in_err-keys.ensures (refused_is_some _) in search (rules, w)
 
-pub returns-then-number-eq0 : goal.returns-then-number-eq0
-returns-then-number-eq0 c = c.not_read.ensures ∙ number_refused _ _ c.read_keys-keys.ensures c.if-number-eq0.true _ c.judge-judged.ensures c.if-answer-eq0.false
+pub returns-in_err-judged : goal.returns-in_err-judged
+returns-in_err-judged c = let w = number_refused _ _ c.in_ok-keys.ensures refl _ c.in_err-judged.ensures (refused_is_some _) in search (rules, w)
 
 pub returns : goal.returns
-returns c = c.not_read-2.ensures ∙ keys_refused _ _ c.read_keys-keys.ensures c.if-number-eq0.false
+returns c = number_done _ _ c.in_ok-keys.ensures refl _ c.in_ok-judged.ensures refl

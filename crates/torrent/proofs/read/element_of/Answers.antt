@@ -12,4 +12,4 @@ pub returns-then-element-elements : goal.returns-then-element-elements
 returns-then-element-elements c = element_here _ _ _ _ c.if-element-elements.true
 
 pub returns : goal.returns
-returns c = rw c.no_part.ensures (element_past _ _ _ _ c.if-element-elements.false)
+returns c = element_past _ _ _ _ c.if-element-elements.false

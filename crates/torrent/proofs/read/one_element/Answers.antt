@@ -1,7 +1,7 @@
 use Rattle.std.proofs.Common.{ℕ, ◌∙◌}
 use Rattle.filetree.specs.Path.{path_size}
 use Rattle.torrent.specs.FindLaws.{found_path, found_element}
-use lib.ListN.{length-replicate}
+use Rattle.std.proofs.lemmas.List.{length-replicate}
 use Rattle.torrent.proofs.read.one_element.Goals as goal
 
 pub element_of-requires : goal.element_of-requires

@@ -1,9 +1,9 @@
-use Rattle.std.proofs.Common.{arith, ◌∙◌}
+use Rattle.std.proofs.Common.{arith}
 use Rattle.v1.specs.ReadLaws.{piece_own, piece_among, part_empty, part_last, part_done}
 use Rattle.v1.proofs.read.part_of.Goals as goal
 
 pub returns-then-length-eq0 : goal.returns-then-length-eq0
-returns-then-length-eq0 c = c.no_part.ensures ∙ part_empty _ _ _ _ _ _ c.requires.1 c.if-length-eq0.true
+returns-then-length-eq0 c = part_empty _ _ _ _ _ _ c.requires.1 c.if-length-eq0.true
 
 pub overflow_sub-last : goal.overflow_sub-last
 overflow_sub-last c = let t = c.requires.1 in let e = c.piece_count-count.ensures in let l = part_last _ _ _ _ _ _ t c.if-length-eq0.false _ e in let o = piece_own _ _ _ _ _ _ t _ l in let m = piece_among _ _ _ _ _ _ t _ l in let w = t.within in let x = t.few in let y = t.room in let z = t.small in omega arith

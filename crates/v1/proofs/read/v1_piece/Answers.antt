@@ -1,22 +1,11 @@
-use Rattle.std.proofs.Common.{◌∙◌}
-use Rattle.v1.specs.KnownLaws.{known_so, file_fits, file_stands}
-use Rattle.v1.specs.ReadLaws.{piece_refused, piece_no_file, piece_no_hybrid, piece_is}
+use Rattle.std.proofs.Common.{rules}
 use Rattle.v1.proofs.read.v1_piece.Goals as goal
 
-pub v1_file-f-requires : goal.v1_file-f-requires
-v1_file-f-requires c = let k = known_so _ _ c.check-c.ensures c.if-number-eq0.true in (k.plen_some, k.small)
-
 pub piece_of-requires : goal.piece_of-requires
-piece_of-requires c = let k = known_so _ _ c.check-c.ensures c.if-number-eq0.true in let f = file_fits _ _ k _ _ _ c.pieces_from.ensures c.in-Content.is _ c.if-file-files.true in let e = c.v1_file-f.ensures _ k.info_stands f in file_stands _ _ k _ _ _ c.pieces_from.ensures c.in-Content.is _ _ e
+piece_of-requires c = c.in_ok-sought.ensures.0
 
-pub returns-in-NoString : goal.returns-in-NoString
-returns-in-NoString c = c.no_piece.ensures ∙ piece_no_hybrid _ _ c.check-c.ensures c.if-number-eq0.true _ c.pieces_from.ensures c.in-NoString.is _ _ c.if-file-files.true
-
-pub returns-in-Content : goal.returns-in-Content
-returns-in-Content c = let k = known_so _ _ c.check-c.ensures c.if-number-eq0.true in let f = file_fits _ _ k _ _ _ c.pieces_from.ensures c.in-Content.is _ c.if-file-files.true in let e = c.v1_file-f.ensures _ k.info_stands f in piece_is _ _ c.check-c.ensures c.if-number-eq0.true _ c.pieces_from.ensures _ _ c.in-Content.is _ _ c.if-file-files.true _ e _ c.piece_of.ensures
-
-pub returns-then-number-eq0 : goal.returns-then-number-eq0
-returns-then-number-eq0 c = c.no_piece-then-number-eq0.ensures ∙ piece_no_file _ _ c.check-c.ensures c.if-number-eq0.true _ _ c.if-file-files.false
+pub returns-in_err-sought : goal.returns-in_err-sought
+returns-in_err-sought c = let w = c.in_err-sought.ensures.0 c.args.piece in search (rules, w)
 
 pub returns : goal.returns
-returns c = c.no_piece-2.ensures ∙ piece_refused _ _ c.check-c.ensures _ _ c.if-number-eq0.false
+returns c = c.in_ok-sought.ensures.1 _ _ c.piece_of.ensures

@@ -4,4 +4,4 @@ use Rattle.v1.proofs.read.zeros_behind.Goals as goal
 
 pub returns : goal.returns
 unfolding zeros_behind
-returns c = rw (c.least-whole.ensures, c.least-own.ensures) refl
+returns c = rw (c.min-whole.ensures, c.min-own.ensures) refl

@@ -1,49 +1,54 @@
-use Rattle.std.proofs.Common.{sym, ◌∙◌}
+use Rattle.std.proofs.Common.{sym, ◌∙◌, subst, ℕ, ◌≡◌, Some}
+use Rattle.writer_order.specs.Order.{InForm}
 use Rattle.writer_order.specs.OrderLaws.{placed_index}
 use Rattle.writer_order.specs.StepsLaws.{clashing_start, clashing_end, clashing_empty, clashing_stop, clashing_on}
+use Rattle.writer_order.proofs.clash.clashes.Goals.{then-is_full+else-wrong_next, else-is_full}
 use Rattle.writer_order.proofs.clash.clashes.Goals as goal
 
-pub loop-i-init : goal.loop-i-init
-loop-i-init c = clashing_start _ _ _ _ _ _
+some_is : {p q : ℕ} → Some p ≡ Some q → p ≡ q
+some_is e = cc
+
+pub loop-place-init : goal.loop-place-init
+loop-place-init g c = (λ p e. cc, λ alone beside told agreed. clashing_start _ _ alone beside _)
 
 pub is_full-requires : goal.is_full-requires
-is_full-requires c = (placed_index _ c.args.text.now _ _ _
-    c.requires.0 c.loop-i-test.true c.index-p.ensures).0
+is_full-requires g c = (placed_index _ c.args.text.now _ _ _ c.requires.0 c.loop-place-test.true c.index-p.ensures).0
 
 pub wrong_next-requires : goal.wrong_next-requires
-wrong_next-requires c = (
-  c.loop-i.invariant.last_there,
-  placed_index _ _ _ _ _
-      c.requires.0
-      c.loop-i-test.true c.index-p.ensures,
+wrong_next-requires g c = (
+  c.loop-place.invariant.0,
+  placed_index _ _ _ _ _ c.requires.0 c.loop-place-test.true c.index-p.ensures,
   c.requires.1,
+  c.requires.2,
 )
 
 pub returns-then-wrong_next : goal.returns-then-wrong_next
-returns-then-wrong_next c = let k = c.args in let l =
-    c.loop-i in sym
-    (clashing_stop k.list.now k.text.now k.plen k.layers k.at.now l.seen l.last l.i l.invariant
-    c.loop-i-test.true _ c.index-p.ensures
+returns-then-wrong_next g c = let k = c.args in let l = c.loop-place in
+    λ alone beside told agreed. sym
+    (clashing_stop k.list.now k.text.now alone beside k.at.now l.last l.place-index (l.invariant.1 alone beside told agreed)
+    c.loop-place-test.true _ c.index-p.ensures
     (sym c.is_full.ensures ∙ c.if-is_full.true)
-    (sym c.wrong_next.ensures ∙ c.if-wrong_next.true))
+    (sym (c.wrong_next.ensures alone beside told agreed) ∙ c.if-wrong_next.true))
 
-pub loop-i-preserved-then-is_full : goal.loop-i-preserved-then-is_full
-loop-i-preserved-then-is_full c = let k = c.args in let l =
-    c.loop-i in clashing_on k.list.now k.text.now k.plen k.layers
-    k.at.now l.seen l.last l.i l.invariant c.loop-i-test.true _
-    c.index-p.ensures
-    (sym c.is_full.ensures ∙ c.if-is_full.true)
-    (sym c.wrong_next.ensures ∙ c.if-wrong_next.false)
-    (placed_index _ _ _ _ _ c.requires.0
-    c.loop-i-test.true c.index-p.ensures)
-
-pub loop-i-preserved : goal.loop-i-preserved
-loop-i-preserved c = let k = c.args in let l =
-    c.loop-i in clashing_empty k.list.now k.text.now k.plen k.layers k.at.now
-    l.seen l.last l.i l.invariant c.loop-i-test.true _ c.index-p.ensures
-    (sym c.is_full.ensures ∙ c.if-is_full.false)
+pub loop-place-preserved : goal.loop-place-preserved
+loop-place-preserved g c = let k = c.args in let l = c.loop-place in
+    elim c.if-is_full.branch [
+      | then-is_full+else-wrong_next w ↦ rw w.last-is (
+        λ p e. subst (InForm k.list.now k.text.now) (some_is e) (placed_index _ _ _ _ _ c.requires.0 c.loop-place-test.true c.index-p.ensures),
+        λ alone beside told agreed. clashing_on k.list.now k.text.now alone beside k.at.now l.last l.place-index
+            (l.invariant.1 alone beside told agreed) c.loop-place-test.true _ c.index-p.ensures
+            (sym c.is_full.ensures ∙ w.if-is_full.true) (sym (w.wrong_next.ensures alone beside told agreed) ∙ w.if-wrong_next.false),
+      )
+      | else-is_full w ↦ rw w.last-is (
+        l.invariant.0,
+        λ alone beside told agreed. clashing_empty k.list.now k.text.now alone beside k.at.now l.last l.place-index
+            (l.invariant.1 alone beside told agreed) c.loop-place-test.true _ c.index-p.ensures
+            (sym c.is_full.ensures ∙ w.if-is_full.false),
+      )
+    ]
 
 pub returns : goal.returns
-returns c = let k = c.args in let l = c.loop-i in sym
-    (clashing_end k.list.now k.text.now k.plen k.layers k.at.now l.seen l.last l.i l.invariant
-    c.loop-i-test.false)
+returns g c = let k = c.args in let l = c.loop-place in
+    λ alone beside told agreed. sym
+    (clashing_end k.list.now k.text.now alone beside k.at.now l.last l.place-index (l.invariant.1 alone beside told agreed)
+    c.loop-place-test.false)

@@ -1,4 +1,4 @@
-use Rattle.std.proofs.Common.{not, false, List, [], arith, ℕ, refl, ap, sym, ◌∙◌}
+use Rattle.std.proofs.Common.{not, List, [], arith, ℕ, refl, ap, sym, ◌∙◌}
 use Rattle.writer_order.specs.ItemLaws.{passed_start, passed_end, passed_here, passed_more, some_last, some_in}
 use Rattle.writer_lists.specs.PathsLaws.{element_size, element_end_lem}
 use Rattle.writer_meaning.specs.Number.{some}

@@ -4,7 +4,7 @@ use Rattle.writer_output.specs.Path.{left_in}
 use Rattle.writer_output.specs.Files.{file_in}
 use Rattle.writer_meaning.specs.Content.{properties}
 use Rattle.writer_output.specs.FilesLaws.{file_length_lem, put_parts, properties_read, put_read}
-use lib.ListN.{length-replicate}
+use Rattle.std.proofs.lemmas.List.{length-replicate}
 use Rattle.writer_output.proofs.file.put_file.Goals as goal
 
 pub put_closed-closed-requires : goal.put_closed-closed-requires

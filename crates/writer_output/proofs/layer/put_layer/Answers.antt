@@ -5,8 +5,7 @@ use Rattle.writer_output.proofs.layer.put_layer.Goals as goal
 
 pub returns-then-root_repeats : goal.returns-then-root_repeats
 returns-then-root_repeats c = put_repeated c.args.list.now c.args.text.now
-    c.args.place c.args.last
-    c.args.seen _ c.root_repeats.ensures c.if-root_repeats.true _ _
+    c.args.place c.args.last _ c.root_repeats.ensures c.if-root_repeats.true _ _
 
 pub put_string-value-requires : goal.put_string-value-requires
 put_string-value-requires c = omega (
@@ -14,8 +13,7 @@ put_string-value-requires c = omega (
   entry_length c.args.list.now
       c.args.text.now
       c.args.place
-      c.args.last
-      c.args.seen _
+      c.args.last _
       c.root_repeats.ensures c.if-root_repeats.false,
   c.requires.2,
 )
@@ -32,8 +30,7 @@ pub put_string-requires : goal.put_string-requires
 put_string-requires c = let e = c.put_string-value.ensures.behind in omega (
   arith,
   entry_length c.args.list.now c.args.text.now
-      c.args.place c.args.last
-      c.args.seen _ c.root_repeats.ensures
+      c.args.place c.args.last _ c.root_repeats.ensures
       c.if-root_repeats.false,
   c.requires.2,
   ap (λ (l : List ℕ). length (encode_string l))
@@ -47,8 +44,7 @@ pub returns : goal.returns
 returns c = put_entry c.args.list.now
     c.args.text.now
     c.args.place
-    c.args.last
-    c.args.seen _ c.root_repeats.ensures
+    c.args.last _ c.root_repeats.ensures
     c.if-root_repeats.false _ (layer_slice c.args.list.now
     c.args.text.now
     c.args.place _ _

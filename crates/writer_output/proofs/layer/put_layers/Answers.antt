@@ -2,25 +2,28 @@
 use Rattle.std.proofs.Common.{arith, ◌∙◌, rules}
 use Rattle.writer_order.specs.Order.{InForm}
 use Rattle.writer_order.specs.OrderLaws.{placed_index}
-use Rattle.writer_output.specs.LayersLaws.{listing_start, listing_skip, layer_room, last_inside, listing_more, end_room, listing_end}
+use Rattle.writer_output.specs.LayersLaws.{listing_start, listing_skip, layer_room, listing_more, end_room, listing_end}
+use Rattle.writer_output.proofs.layer.put_layers.Goals.{then-size-ne0, else-size-ne0}
 use Rattle.writer_output.proofs.layer.put_layers.Goals as goal
-
-pub loop-i-preserved-then-size-eq0 : goal.loop-i-preserved-then-size-eq0
-loop-i-preserved-then-size-eq0 c = listing_skip c.loop-i.invariant c.loop-i-test.true c.requires.0 _ c.index-place.ensures _
-    c.number_at-size.ensures.0 c.if-size-eq0.true
 
 pub put_layer-to-requires : goal.put_layer-to-requires
 put_layer-to-requires c = let g = c.loop-i.invariant in let h = c.loop-i-test.true in let pre = c.requires in
-    let e = c.index-place.ensures in let b = c.number_at-size.ensures.0 in let z = c.if-size-eq0.false in (
+    let e = c.index-place.ensures in let b = c.number_at-size.ensures.0 in let z = c.if-size-ne0.true in (
       (let it : InForm c.args.list.now c.args.text.now c.index-place.result = placed_index c.args.list.now c.args.text.now c.args.order.now c.loop-i.i _
           c.requires.0 c.loop-i-test.true c.index-place.ensures in it),
-      last_inside g h pre.0 _ e _ b z,
+      g.inside,
       layer_room g h pre.0 _ e _ b z _ pre.1,
     )
 
 pub loop-i-preserved : goal.loop-i-preserved
-loop-i-preserved c = listing_more c.loop-i.invariant c.loop-i-test.true c.requires.0 _ c.index-place.ensures _
-    c.number_at-size.ensures.0 c.if-size-eq0.false _ _ c.put_layer-to.ensures c.put_layer-to.auto.out
+loop-i-preserved c = elim c.if-size-ne0.branch [
+  | then-size-ne0 w ↦ rw (w.out-is, w.to-is, w.last-is)
+      (listing_more c.loop-i.invariant c.loop-i-test.true c.requires.0 _ c.index-place.ensures _
+      c.number_at-size.ensures.0 w.if-size-ne0.true _ _ w.put_layer-to.ensures w.put_layer-to.auto.out)
+  | else-size-ne0 w ↦ rw (w.out-is, w.to-is, w.last-is)
+      (listing_skip c.loop-i.invariant c.loop-i-test.true c.requires.0 _ c.index-place.ensures _
+      c.number_at-size.ensures.0 w.if-size-ne0.false)
+]
 
 pub put_byte-requires : goal.put_byte-requires
 put_byte-requires c = end_room c.loop-i.invariant c.loop-i-test.false _ c.requires.1

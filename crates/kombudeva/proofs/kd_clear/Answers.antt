@@ -1,6 +1,0 @@
-use Rattle.std.proofs.Common.{ap, ◌∙◌}
-use Rattle.kombudeva.specs.Boundary.{count_answer}
-use Rattle.kombudeva.proofs.kd_clear.Goals as goal
-
-pub returns : goal.returns
-returns c = (c.count_answer.ensures ∙ ap count_answer c.clear_mark.ensures.0, c.clear_mark.ensures.1)

@@ -1,6 +1,0 @@
-use Rattle.std.proofs.Common.{ap, ◌∙◌}
-use Rattle.kombudeva.specs.Boundary.{count_answer}
-use Rattle.kombudeva.proofs.kd_take_reject.Goals as goal
-
-pub returns : goal.returns
-returns c = c.count_answer.ensures ∙ ap count_answer c.take_reject.ensures

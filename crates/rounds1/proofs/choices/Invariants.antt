@@ -1,9 +1,0 @@
-use Rattle.std.proofs.Common.{◌-◌, ◌≤◌, ◌%◌, ◌≡◌}
-use Rattle.rounds1.specs.Block.{rounds}
-use Rattle.rounds1.proofs.choices.Given as goal
-
-abbrev pub invariant-loop-i : goal.invariant-loop-i
-invariant-loop-i l = (l.i ≤ 20) × (l.i % 5 ≡ 0) × (l.t ≡ rounds l.w l.i l.initial.t)
-
-abbrev pub decreases-loop-i : goal.decreases-loop-i
-decreases-loop-i l = 20 - l.i
