@@ -136,7 +136,7 @@ fn put_many(room: &mut [u8], at: usize, bytes: &[u8])
     put_part(room, at, bytes, n - 32);
 }
 
-// `bytes` into room from `at` on. The library's copy_from_slice takes six times as many instructions for a block (docs/BENCHMARKS.md, "Streams").
+// `bytes` into room from `at` on, in parts of 32 bytes: copy_from_slice is a call, and for a block more instructions (docs/BENCHMARKS.md, "Streams").
 pub fn put_bytes(room: &mut [u8], at: usize, bytes: &[u8])
     requires { at + length bytes.now ≤ length room.old }
     ensures { room.new ≡ pasted room.old at bytes.now }

@@ -4,12 +4,16 @@
 ghost use Rattle.std.specs.Prelude.{◌≡◌, ◌+◌, ◌^◌, ◌≤◌, ◌<◌, length};
 ghost use Rattle.octets.specs.Octets as O;
 
-// The N bytes at `at`: 32 of a SHA-256 hash, 20 of a SHA-1 hash.
+// The N bytes at `at`: 32 of a SHA-256 hash, 20 of a SHA-1 hash. By a loop: of `first_chunk` the test in `unwrap` stays in the code.
 pub fn hash_at<const N: usize>(bytes: &[u8], at: usize) -> [u8; N]
     requires { at + N ≤ length bytes.now }
     ensures { result ≡ O.cut bytes.now at N }
 {
-    *bytes[at..].first_chunk().unwrap()
+    let mut hash = [0u8; N];
+    for i in 0..N {
+        hash[i] = bytes[at + i];
+    }
+    hash
 }
 
 // Writes the hash at `at`.

@@ -1,18 +1,19 @@
 -- What each function answers, from what its callees ensure and the tests it took.
 -- Assumes nothing.
 use Rattle.std.specs.Prelude.{◌≡◌, refl, Bool, true, false, cond, List, ◌∷◌, ◌++◌, ℕ, suc, ◌+◌, ◌*◌, ◌%◌, ◌^◌, ◌≤◌, ◌<◌, length}
-use Rattle.std.proofs.Common.{ap, ap₂, sym, ◌∙◌, append_assoc, inl, inr, one-mul, arith, length-append, pow_mono, shl_exact, ne_eqb}
-use Rattle.octets.specs.Octets.{pasted, same}
+use Rattle.std.proofs.Common.{ap, ap₂, sym, ◌∙◌, append_assoc, inl, inr, one-mul, arith, length-append, pow_mono, shl_exact}
+use Rattle.octets.specs.Octets.{cut, pasted, same}
 use Rattle.octets.specs.OctetsLaws.{cut_length, pasted_append}
 use Rattle.numbers.specs.Numbers.{refused, done, unusable, no_message, other_root, rule_broken, no_room, not_held}
 use Rattle.numbers.specs.declared.Answer.{Answer}
 use Rattle.limits.specs.Limits.{tallest_tree}
 use Rattle.store.specs.Store.{Facts, usable, facts_root, height_of}
 use Rattle.store.specs.StoreLaws.{usable_facts}
+use Rattle.header.specs.declared.Header.{Header}
 use Rattle.header.specs.declared.Place.{Place}
 use Rattle.header.specs.Header.{header_size, header_bytes, hashes_id, reject_id, is_request, message_root, header_of, rules_kept}
 use Rattle.messages.specs.Take.{header_number, place_in, or_else}
-use Rattle.messages.specs.TakeLaws.{passed, request_form}
+use Rattle.messages.specs.TakeLaws.{passed, passes}
 use Rattle.serve.specs.Serve.{held_run, held_uncles, run_hashes, uncle_hashes, all_held, all_hashes, reply_to, reject_to, request_number, serve_answer, serve_after}
 use Rattle.serve.specs.Asks.{Reach, fit_answer, fit_after}
 use Rattle.serve.specs.ServeLaws.{run_hashes_length, uncle_hashes_length, fits_sent, fits_not, served_none, served_reply, served_reject, request_size, request_reach, reply_length, reject_length}
@@ -25,9 +26,6 @@ count_of k l =
     (e, omega arith)
 
 -- ---- the place of a request
-
-pub form_long : (m : List ℕ) (t : Bool) → t ≡ is_request m → t ≡ true → header_size ≤ length m
-form_long m t e f = omega (arith, request_form m (sym e ∙ f))
 
 module _ (s m : List ℕ) (e : header_number (is_request m) s m ≡ 0) where
   facts : Facts s
@@ -55,31 +53,40 @@ module _ (s : List ℕ) (p : Place) (c : ℕ) (e : c ≡ 2 ^ p.k) (t : Bool) (h 
   unfolding all_held
   held_not n = sym (rw (← e, ← h, n))
 
--- ---- a request's number
+-- ---- a request's number: of a request to a store, by its root, its rules, and what is held
 
-module _ (s m : List ℕ) (t : Bool) (n : ℕ) (a : t ≡ is_request m) (b : n ≡ header_number t s m) where
-  number_is : n ≡ header_number (is_request m) s m
-  number_is = b ∙ ap (λ (x : Bool). header_number x s m) a
+module _ (s m : List ℕ) (u : usable s ≡ true) (f : is_request m ≡ true) (mine theirs : List ℕ) (v : Bool) (p : mine ≡ facts_root s) (q : theirs ≡ cut m 1 32) (w : v ≡ same mine theirs) where
+  roots : v ≡ same (facts_root s) (message_root m)
+  unfolding message_root
+  roots = w ∙ ap₂ (λ (x y : List ℕ). same x y) p q
 
-  pub number_refused : (n ≡ 0 → ⊥) → n ≡ request_number s m
-  unfolding request_number
-  number_refused ne = sym (rw (← number_is, ne_eqb n 0 ne))
+  pub number_other_root : v ≡ false → other_root ≡ request_number s m
+  unfolding request_number header_number
+  number_other_root z = sym (rw (u, f, ← roots, z))
 
-  module _ (z : n ≡ 0) where
-    pub number_passed : header_number (is_request m) s m ≡ 0
-    number_passed = sym number_is ∙ z
+  module _ (z : v ≡ true) (x : Header) (k : Bool) (ex : x ≡ header_of m) (ek : k ≡ rules_kept x (height_of s)) where
+    rules : k ≡ rules_kept (header_of m) (height_of s)
+    rules = ek ∙ ap (λ (y : Header). rules_kept y (height_of s)) ex
 
-    module _ (p : Place) (v : Bool) (f : p ≡ place_in s m) (g : v ≡ all_held s p) where
-      looked : all_held s (place_in s m) ≡ v
-      looked = cc
+    pub number_rule_broken : k ≡ false → rule_broken ≡ request_number s m
+    unfolding request_number header_number
+    number_rule_broken y = sym (rw (u, f, ← roots, z, ← rules, y))
 
-      pub number_held : v ≡ true → 0 ≡ request_number s m
-      unfolding request_number
-      number_held y = sym (rw (number_passed, looked, y))
+    module _ (y : k ≡ true) where
+      pub number_passed : header_number (is_request m) s m ≡ 0
+      number_passed = passes (is_request m) s m (record { store = u; formed = f; root = sym roots ∙ z; rules = sym rules ∙ y })
 
-      pub number_not_held : v ≡ false → not_held ≡ request_number s m
-      unfolding request_number
-      number_not_held y = sym (rw (number_passed, looked, y))
+      module _ (t : Place) (h : Bool) (et : t ≡ place_in s m) (eh : h ≡ all_held s t) where
+        looked : all_held s (place_in s m) ≡ h
+        looked = cc
+
+        pub number_held : h ≡ true → request_number s m ≡ 0
+        unfolding request_number
+        number_held b = rw (number_passed, looked, b)
+
+        pub number_not_held : h ≡ false → not_held ≡ request_number s m
+        unfolding request_number
+        number_not_held b = sym (rw (number_passed, looked, b))
 
 -- 9 and 1 are tested first,
 pub quiet_9 : (s m : List ℕ) → usable s ≡ false → unusable ≡ request_number s m

@@ -1,10 +1,11 @@
 // A request for hashes served: answered by a hashes message if all are held, by a reject if not. The store is only looked at.
 #![tactic(auto)]
 
-ghost use Rattle.std.specs.Prelude.{◌≡◌, ◌∷◌, ◌+◌, ◌*◌, ◌^◌, ◌≤◌, length};
+ghost use Rattle.std.specs.Prelude.{◌≡◌, true, ◌∷◌, ◌+◌, ◌*◌, ◌^◌, ◌≤◌, length};
 ghost use Rattle.limits.specs.Limits.{tallest_tree};
 ghost use Rattle.octets.specs.Octets.{pasted};
 ghost use Rattle.cells.specs.Cells.{Room};
+ghost use Rattle.store.specs.Store.{usable};
 ghost use Rattle.header.specs.Header.{header_size, header_bytes, is_request};
 ghost use Rattle.messages.specs.Take.{header_number, place_in};
 ghost use Rattle.serve.specs.Serve as S;
@@ -13,11 +14,11 @@ ghost use Rattle.serve.specs.Asks.{Reach, Asked, fit_answer, fit_after};
 
 use cells::{hash_of, held};
 use header::{HASHES, HEADER_SIZE, Place, REJECT, header_of, is_request};
-use messages::take::{check_header, place_in};
+use messages::take::{place_in, rules_in};
 use numbers::{Answer, Refused, refusal, success};
-use octets::put_hash;
+use octets::{hash_at, put_hash, same};
 use settling::sibling;
-use store::is_usable;
+use store::{facts_root, is_usable};
 
 // Whether the c positions from number n on are all held.
 fn held_run(store: &[u8], n: usize, c: usize) -> bool
@@ -145,13 +146,19 @@ fn send_reject(message: &[u8], out: &mut [u8], why: Refused) -> Answer
     }
 }
 
-// The place that a request asks for, where all its hashes are held: else 9, 1, 2, 3 or 12.
+// The place that a request to a store asks for, where all its hashes are held: else 2, 3 or 12. (check_header would test for 9 and 1 once more.)
 fn asked(store: &[u8], message: &[u8]) -> Result<Place, Refused>
+    requires { (usable store.now ≡ true) × (is_request message.now ≡ true) }
     ensures { Asked store.now message.now result }
 {
-    let form = is_request(message);
-    check_header(store, message, form)?;
-    let place = place_in(store, header_of(message));
+    if !same(facts_root(store), hash_at(message, 1)) {
+        return Err(Refused::OtherRoot);
+    }
+    let header = header_of(message);
+    if !rules_in(store, header) {
+        return Err(Refused::RuleBroken);
+    }
+    let place = place_in(store, header);
     if !all_held(store, place) {
         return Err(Refused::NotHeld);
     }

@@ -2,3 +2,4 @@ pub mod Telling
 pub mod Merging
 pub mod Thinning
 pub mod Narrowing
+pub mod Copying

@@ -1,8 +1,10 @@
-use Rattle.std.proofs.Common.{take, ap, ◌∙◌}
-use Rattle.std.proofs.lemmas.List.{take_rest}
-use Rattle.octets.specs.Octets.{cut}
+use Rattle.std.proofs.Common.{arith, ℕ}
+use Rattle.std.proofs.lemmas.List.{length-replicate}
+use Rattle.octets.proofs.Turn.{turn_read, whole_read}
 use Rattle.octets.proofs.hash_at.Goals as goal
 
+pub loop-i-preserved : goal.loop-i-preserved
+loop-i-preserved g c = turn_read _ _ c.args.bytes.now c.args.at _ c.loop-i.invariant (omega (arith, length-replicate {A = ℕ} g.row.N 0)) (omega (arith, c.requires))
+
 pub returns : goal.returns
-unfolding cut
-returns g c = (rw c.unwrap.ensures at c.first_chunk.ensures.cases).same ∙ ap (take g.row.N) (take_rest c.args.bytes.now c.args.at)
+returns g c = whole_read _ _ _ _ c.loop-i.i g.row.N c.loop-i.invariant (length-replicate {A = ℕ} g.row.N 0) (omega arith)
