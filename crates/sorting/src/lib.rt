@@ -6,4 +6,4 @@ pub mod distinct;
 pub mod halving;
 pub mod sort;
 
-pub use compare::index;
+pub use compare::{ByString, index};

@@ -29,6 +29,9 @@ slice_bounds-list_in-end-2 c = (whole _ _ c.in_ok-c.ensures refl).opened.layers_
 pub slice_bounds-list_in-end-3 : goal.slice_bounds-list_in-end-3
 slice_bounds-list_in-end-3 c = sym (length-replicate {A = ℕ} most_roots 0)
 
+pub returns-then-out-size : goal.returns-then-out-size
+returns-then-out-size c = let w = list_short _ _ c.in_ok-c.ensures refl _ c.if-out-size.true _ refl in record { answer = w.0; left = w.1 }
+
 pub list_in-requires : goal.list_in-requires
 list_in-requires c = (list_ready _ _ c.in_ok-c.ensures refl, length-replicate {A = ℕ} most_roots 0, list_room _ _ c.in_ok-c.ensures refl _ c.if-out-size.false)
 
@@ -37,9 +40,6 @@ returns-in_err-c-clause-answer c = let w = list_refused_lem _ _ c.in_err-c.ensur
 
 pub returns-in_err-c-clause-left : goal.returns-in_err-c-clause-left
 returns-in_err-c-clause-left c = (list_refused_lem _ _ c.in_err-c.ensures c.args.out.now (refused_is_some _) _ refl).1
-
-pub returns-then-out-size : goal.returns-then-out-size
-returns-then-out-size c = let w = list_short _ _ c.in_ok-c.ensures refl _ c.if-out-size.true _ refl in record { answer = w.0; left = w.1 }
 
 pub returns : goal.returns
 returns c = let w = list_done _ _ c.in_ok-c.ensures refl _ c.if-out-size.false _ refl _ c.list_in.ensures in record { answer = w.0; left = w.1 }
