@@ -346,7 +346,7 @@ def point8():
     lines = Counter()
     where = defaultdict(set)
     for dirpath, _, names in os.walk(CR):
-        if "/proofs" in dirpath and "Answers.antt" in names:
+        if "/out/" not in dirpath and "/proofs" in dirpath and "Answers.antt" in names:
             for d in re.split(r"\n(?=pub )", open(f"{dirpath}/Answers.antt").read()):
                 b = re.sub(r"^pub [^\n]*\n", "", d)
                 m = re.search(r"(?m)^\S+ (?:\w+ )?c =(.*)", b, re.S)
@@ -359,7 +359,7 @@ def point8():
     show("answers that stand in three places or more, word for word", rep)
     dec = 0
     for dirpath, _, names in os.walk(CR):
-        if "/proofs" in dirpath and "Invariants.antt" in names:
+        if "/out/" not in dirpath and "/proofs" in dirpath and "Invariants.antt" in names:
             dec += len(re.findall(r"(?m)^decreases-loop|^\w+-decreases-loop|decreases-\S*loop", open(f"{dirpath}/Invariants.antt").read()) ) // 2
     print(f"{dec:4}  measures of loops (a `for` has none)")
 
