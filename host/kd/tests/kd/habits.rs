@@ -1,6 +1,6 @@
 use crate::folder::{content, rack, Folder};
 use crate::run::{command, kd, shell};
-use std::process::Stdio;
+use std::io::pipe;
 
 const VERBS: [&str; 8] = ["show", "verify", "cat", "make", "root", "store", "extends", "explain"];
 
@@ -34,9 +34,10 @@ pub fn a_pipe_closed_early_is_141() {
         &["cat", &torrent, "cells/7.log", &place],
         &["explain"],
     ] {
-        let mut child = command(arguments).stdout(Stdio::piped()).stderr(Stdio::piped()).spawn().unwrap();
-        drop(child.stdout.take());
-        let output = child.wait_with_output().unwrap();
+        // Closed before kd starts: it may have written all before the other end is closed.
+        let (reader, writer) = pipe().unwrap();
+        drop(reader);
+        let output = command(arguments).stdout(writer).output().unwrap();
         assert_eq!((output.status.code(), &output.stderr[..]), (Some(141), &b""[..]), "{arguments:?}");
     }
 }
